@@ -1,0 +1,5 @@
+pub mod Fraction
+pub mod Lists
+pub mod Rows
+pub mod Sums
+pub mod VarSet

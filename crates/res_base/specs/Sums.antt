@@ -1,0 +1,9 @@
+-- Sums over the numbers below a bound.
+use Rattle.std.specs.Prelude.{ℕ, zero, suc, ◌+◌, Bool, if◌then◌else◌}
+
+abbrev pub sum_below : ℕ → (ℕ → ℕ) → ℕ
+sum_below zero f = 0
+sum_below (suc n) f = sum_below n f + f n
+
+abbrev pub one_if : Bool → ℕ
+one_if b = if b then 1 else 0

@@ -1,0 +1,6 @@
+pub mod IocFaults
+pub mod ProjectFaults
+pub mod Steps
+pub mod TableFaults
+pub mod UsageFaults
+pub mod Valid

@@ -1,0 +1,17 @@
+//! The plain data that the crates share, and in specs/ the definitions of the domain that their contracts cite.
+#![tactic(auto)]
+
+mod command;
+mod fault;
+mod line;
+mod project;
+mod table;
+
+pub use command::{Command, Free, Opts};
+pub use fault::{IocFault, ProjectFault, TableFault, UsageFault};
+pub use line::Line;
+pub use project::{Home, Project, Pull, Signal, Speed};
+pub use table::{
+    Bounds, Domains, FlashRange, Ip, Mode, Need48, Pin, PinUse, Role, Scale, TableParts,
+    TableSignal, Tables,
+};

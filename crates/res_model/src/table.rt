@@ -1,0 +1,179 @@
+ghost use Rattle.std.specs.Prelude.{◌≡◌};
+
+use res_base::{Items, Text};
+use std::marker::Model;
+
+/// A pin of the package: its name, its port (0 for A to 8 for I) and its number on the port (0 to 15).
+#[derive(Debug, Drop)]
+pub struct Pin {
+    pub name: Text,
+    pub port: u8,
+    pub number: u8,
+}
+
+/// How a signal of the table makes use of a pin.
+#[derive(Clone, Copy, Debug, PartialEq, Eq)]
+pub enum Role {
+    /// By an alternate function.
+    Alt,
+    Input,
+    Output,
+    Analog,
+    /// An input that raises an interrupt.
+    Exti,
+    /// A pin of the oscillator.
+    Osc,
+}
+
+/// What a signal makes of its pin.
+#[derive(Clone, Copy, Debug, PartialEq, Eq)]
+pub enum Mode {
+    /// The alternate function of this number, 0 to 15.
+    Alt(u8),
+    Input,
+    Output,
+    Analog,
+    /// An input that raises an interrupt.
+    Exti,
+    /// A pin of the oscillator.
+    Osc,
+    /// A pin that is only held.
+    Held,
+}
+
+/// A pin, by its place in the table's list of pins, and the mode that it has there.
+#[derive(Clone, Copy, Debug, PartialEq, Eq)]
+pub struct PinUse {
+    pub pin: u8,
+    pub mode: Mode,
+}
+
+/// A signal of the table. Its rows say where it can be, and with which mode.
+#[derive(Debug, Drop)]
+pub struct TableSignal {
+    pub name: Text,
+    pub role: Role,
+    pub ip: Option<Text>,
+    pub drain: bool,
+    pub at: Items<PinUse>,
+}
+
+/// What an IP needs of the 48 MHz output.
+#[derive(Clone, Copy, Debug, PartialEq, Eq)]
+pub enum Need48 {
+    Nothing,
+    /// Exactly 48,000,000 Hz.
+    Exact,
+    /// At most 48,000,000 Hz.
+    Most,
+}
+
+/// An IP: its need of the 48 MHz output, the least HCLK in hertz, and the signals of `VP_` pins that use it.
+#[derive(Debug, Drop)]
+pub struct Ip {
+    pub name: Text,
+    pub clock48: Need48,
+    pub floor: u64,
+    pub marks: Items<Text>,
+}
+
+/// The values that the clock variables can have: lists, or the least and the greatest.
+#[derive(Debug, Drop)]
+pub struct Domains {
+    pub hpre: Items<u16>,
+    pub p: Items<u16>,
+    pub m: (u16, u16),
+    pub n: (u16, u16),
+    pub q: (u16, u16),
+    pub ppre1: Items<u16>,
+    pub ppre2: Items<u16>,
+    pub vos: Items<u16>,
+}
+
+/// The limits of the clock tree in hertz: ranges from the least to the greatest, and greatest values.
+#[derive(Clone, Copy, Debug, PartialEq, Eq)]
+pub struct Bounds {
+    pub crystal: (u64, u64),
+    pub bypass: (u64, u64),
+    pub vco_in: (u64, u64),
+    pub vco: (u64, u64),
+    pub sysclk: u64,
+    pub pclk1: u64,
+    pub pclk2: u64,
+}
+
+/// A scale of the voltage regulator, and the greatest HCLK under it in hertz.
+#[derive(Clone, Copy, Debug, PartialEq, Eq)]
+pub struct Scale {
+    pub vos: u8,
+    pub max: u64,
+}
+
+/// A range of the supply voltage in millivolts, both ends within it. Row i is the greatest HCLK
+/// in hertz under i wait states.
+#[derive(Debug, Drop)]
+pub struct FlashRange {
+    pub from: u64,
+    pub to: u64,
+    pub prefetch: bool,
+    pub rows: Items<u64>,
+}
+
+/// What a table says, member by member.
+///
+/// `defaults` stands in the order of the clock variables src, psrc, hpre, p, m, n, q, ppre1, ppre2, vos,
+/// with HSI 0, HSE 1 and PLL 2.
+#[derive(Debug, Drop)]
+pub struct TableParts {
+    pub names: Items<Text>,
+    pub package: Text,
+    pub pins: Items<Pin>,
+    pub signals: Items<TableSignal>,
+    pub hse_in: Text,
+    pub hse_out: Text,
+    pub ips: Items<Ip>,
+    pub clock: Domains,
+    pub limits: Bounds,
+    pub scales: Items<Scale>,
+    pub flash: Items<FlashRange>,
+    pub defaults: [u64; 10],
+    pub hse_hz: u64,
+}
+
+/// A table that keeps every rule of the table form. Contracts see what it says.
+#[derive(Debug, Drop)]
+pub struct Tables {
+    parts: TableParts,
+}
+
+impl Model for Tables {
+    ghost use Rattle.res_model.specs.declared.table.TableParts.{TableParts};
+
+    ghost Value = { TableParts };
+
+    ghost use Rattle.res_model.specs.Valid.{IsValid};
+
+    ghost view = { λ t. t.parts };
+
+    ghost invariant = { λ t. IsValid t.parts };
+}
+
+impl Tables {
+    ghost use Rattle.res_model.specs.Valid.{IsValid};
+
+    /// The table that says this.
+    pub fn of(parts: TableParts) -> Tables
+        requires { IsValid parts }
+        ensures { result ≡ parts }
+    {
+        Tables { parts }
+    }
+
+    /// What the table says.
+    pub fn parts(&self) -> &TableParts
+        ensures same { result.now ≡ self.now }
+        ensures valid { IsValid self.now }
+    {
+        &self.parts
+    }
+}
