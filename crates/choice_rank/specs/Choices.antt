@@ -1,0 +1,72 @@
+-- Choices of a shape, their costs, indices and ranks.
+use Rattle.std.specs.Prelude.{◌≡◌, ℕ, ◌+◌, ◌*◌, ◌^◌, ◌≤◌, ◌<◌, ◌-◌, List, [], ◌∷◌, length, take, if◌then◌else◌, ◌==◌, nat_lt}
+use Rattle.choice_rank.specs.declared.variable.Costs.{Costs}
+use Rattle.choice_rank.specs.declared.variable.Costs.TheVariants.{HomeFirst, AllZero, AllOne}
+use Rattle.choice_rank.specs.declared.variable.VarShape.{VarShape}
+
+-- a position for each variable
+abbrev pub IsChoice : List VarShape → List ℕ → Type 0
+IsChoice [] [] = Unit {0}
+IsChoice [] (x ∷ xs) = ⊥
+IsChoice (v ∷ vs) [] = ⊥
+IsChoice (v ∷ vs) (x ∷ xs) = (x < v.size) × IsChoice vs xs
+
+-- how many choices there are
+abbrev pub choices_of : List VarShape → ℕ
+choices_of [] = 1
+choices_of (v ∷ vs) = v.size * choices_of vs
+
+-- the mixed-radix number of a choice, variable 0 most significant
+abbrev pub index_of : List VarShape → List ℕ → ℕ
+index_of [] xs = 0
+index_of (v ∷ vs) [] = 0
+index_of (v ∷ vs) (x ∷ xs) = x * choices_of vs + index_of vs xs
+
+abbrev pub cost_at : Costs → ℕ → ℕ
+cost_at HomeFirst x = if x == 0 then 0 else 1
+cost_at AllZero x = 0
+cost_at AllOne x = 1
+
+abbrev pub cost_of : List VarShape → List ℕ → ℕ
+cost_of [] xs = 0
+cost_of (v ∷ vs) [] = 0
+cost_of (v ∷ vs) (x ∷ xs) = cost_at v.costs x + cost_of vs xs
+
+abbrev pub rank_of : List VarShape → List ℕ → ℕ
+rank_of vs xs = cost_of vs xs * choices_of vs + index_of vs xs
+
+-- the greatest cost of a variable
+abbrev pub cost_most : Costs → ℕ → ℕ
+cost_most HomeFirst size = if nat_lt 1 size then 1 else 0
+cost_most AllZero size = 0
+cost_most AllOne size = 1
+
+abbrev pub costs_most : List VarShape → ℕ
+costs_most [] = 0
+costs_most (v ∷ vs) = cost_most v.costs v.size + costs_most vs
+
+-- each variable has a position
+abbrev pub HasPositions : List VarShape → Type 0
+HasPositions [] = Unit {0}
+HasPositions (v ∷ vs) = (0 < v.size) × HasPositions vs
+
+-- what ranks fit under 2 ^ 63
+pub record IsNarrow (vs : List VarShape) : Type 0 where
+  pub few : length vs ≤ 170
+  pub positions : HasPositions vs
+  pub narrow : (1 + costs_most vs) * choices_of vs ≤ 2 ^ 63
+
+-- ranks fit under 2 ^ 63
+abbrev pub Fits63 : List VarShape → Type 0
+Fits63 vs = (1 + costs_most vs) * choices_of vs ≤ 2 ^ 63
+
+-- v is the first variable with which ranks do not fit
+pub record IsFirstWide (vs : List VarShape) (v : ℕ) : Type 0 where
+  pub within : v < length vs
+  pub before : Fits63 (take v vs)
+  pub wide : Fits63 (take (v + 1) vs) → ⊥
+
+-- no size is above 512
+abbrev pub HasSmallSizes : List VarShape → Type 0
+HasSmallSizes [] = Unit {0}
+HasSmallSizes (v ∷ vs) = (v.size ≤ 512) × HasSmallSizes vs
