@@ -1,6 +1,10 @@
 pub mod IocFaults
+pub mod PinText
+pub mod Placement
 pub mod ProjectFaults
+pub mod Signals
 pub mod Steps
 pub mod TableFaults
 pub mod UsageFaults
 pub mod Valid
+pub mod Values
