@@ -1,5 +1,6 @@
 -- The values that a signal can have, and what they cost.
 use Rattle.std.specs.Prelude.{◌==◌, ◌++◌, ℕ, List, [], ◌∷◌, Bool, not, Option, Some, None, filter, length, map, if◌then◌else◌}
+use Rattle.std.specs.List.{list_any}
 use Rattle.choice_rank.specs.declared.variable.Costs.{Costs}
 use Rattle.choice_rank.specs.declared.variable.Costs.TheVariants.{HomeFirst, AllZero, AllOne}
 use Rattle.choice_rank.specs.declared.variable.VarShape.{VarShape}
@@ -41,7 +42,7 @@ values_of t s = values_from (rows_of (signal_of t s.name)) (own_mode s.name (sig
 -- leaving the home costs 1; a signal whose home is no value pays 1 wherever it goes; a need pays nothing
 abbrev pub home_costs : List PinUse → ℕ → Costs
 home_costs [] home = HomeFirst
-home_costs (row ∷ rows) home = if length (rows_at home (row ∷ rows)) == 0 then AllOne else HomeFirst
+home_costs (row ∷ rows) home = if list_any (is_at home) (row ∷ rows) then HomeFirst else AllOne
 
 abbrev pub costs_from : List PinUse → Option ℕ → Costs
 costs_from rows None = AllZero
