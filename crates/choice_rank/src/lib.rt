@@ -1,6 +1,11 @@
 //! Choices of a shape: their costs, and the one number that ranks each.
 #![tactic(auto)]
 
+mod laws;
+mod places;
+mod shape;
 mod variable;
 
+pub use laws::{index_is_below, rank_is_small, ranks_differ};
+pub use shape::{Shape, ShapeFault};
 pub use variable::{Costs, VarShape};

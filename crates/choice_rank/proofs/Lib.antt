@@ -1,0 +1,4 @@
+pub mod ChoiceLemmas
+pub mod DigitLemmas
+pub mod WeightLemmas
+pub mod WidthLemmas

@@ -1,0 +1,192 @@
+ghost use Rattle.std.specs.Prelude.{◌≡◌, ℕ, ◌%◌, ◌≤◌, ◌↔◌, IsTrue, length, IfOk, IfErr, OnOk};
+ghost use Rattle.choice_rank.specs.Choices.{IsChoice, IsNarrow, IsShape, HasPositions, HasSmallSizes, choices_of, cost_of, index_of, rank_of};
+ghost use Rattle.choice_rank.specs.Faults.{IsShapeFault};
+ghost use Rattle.choice_rank.specs.Weights.{weights_of};
+
+use crate::places::{choice_of, cost_in, index_in};
+use crate::variable::VarShape;
+use res_base::OutOfMemory;
+use std::alloc::Global;
+use std::marker::Model;
+
+/// The variables of a problem, at most 170 of 1 to 512 positions each, whose ranks are below 2^63.
+#[derive(Drop)]
+pub struct Shape {
+    vars: Vec<VarShape>,
+    weights: Vec<u64>,
+    choices: u64,
+}
+
+impl Model for Shape {
+    ghost use Rattle.std.specs.Prelude.{List, ◌≡◌};
+    ghost use Rattle.choice_rank.specs.declared.variable.VarShape.{VarShape};
+
+    ghost Value = { List VarShape };
+
+    ghost use Rattle.choice_rank.specs.Choices.{IsShape, choices_of};
+    ghost use Rattle.choice_rank.specs.Weights.{weights_of};
+
+    ghost view = { λ s. s.vars.items };
+
+    ghost invariant = { λ s. IsShape s.vars.items × (s.weights.items ≡ weights_of s.vars.items) × (s.choices ≡ choices_of s.vars.items) };
+}
+
+/// Why variables make no shape.
+#[derive(Clone, Copy, Debug, PartialEq, Eq)]
+pub enum ShapeFault {
+    /// The first variable with which ranks reach 2^63.
+    TooWide {
+        variable: u16,
+    },
+    Memory,
+}
+
+/// The number of choices, where each rank is below 2^63; else the first variable with which one is not.
+fn measured(vars: &[VarShape]) -> Result<u64, ShapeFault>
+    requires few { length vars.now ≤ 170 }
+    requires positions { HasPositions vars.now }
+    requires sizes { HasSmallSizes vars.now }
+    ensures choices { IfOk result (λ n. n ≡ choices_of vars.now) }
+    ensures narrow { OnOk result (IsNarrow vars.now) }
+    ensures wide { IfErr result (IsShapeFault vars.now) }
+{
+    let mut product: u128 = 1;
+    let mut most: u128 = 0;
+    for i in 0..vars.len() {
+        let v = vars[i];
+        product *= u128::from(v.size);
+        most += u128::from(v.most());
+        if (1 + most) * product > 1 << 63 {
+            return Err(ShapeFault::TooWide { variable: i as u16 });
+        }
+    }
+    Ok(product as u64)
+}
+
+/// For each variable, what one position more adds to the index.
+fn weigh(alloc: Global, vars: &[VarShape], choices: u64) -> Result<Vec<u64>, OutOfMemory>
+    requires positions { HasPositions vars.now }
+    requires choices { choices ≡ choices_of vars.now }
+    ensures { IfOk result (λ ws. ws.items ≡ weights_of vars.now) }
+{
+    let mut weights = Vec::with_capacity(alloc, vars.len())?;
+    let mut weight = choices;
+    for v in vars {
+        weight /= u64::from(v.size);
+        weights.push(weight)?;
+    }
+    Ok(weights)
+}
+
+impl Shape {
+    /// The shape of these variables.
+    ///
+    /// `TooWide` names the first variable with which a rank can reach 2^63.
+    pub fn new(alloc: Global, vars: Vec<VarShape>) -> Result<Shape, ShapeFault>
+        requires few { length vars.items ≤ 170 }
+        requires positions { HasPositions vars.items }
+        requires sizes { HasSmallSizes vars.items }
+        ensures vars { IfOk result (λ s. s ≡ vars.items) }
+        ensures narrow { OnOk result (IsNarrow vars.items) }
+        ensures fault { IfErr result (IsShapeFault vars.items) }
+    {
+        let choices = measured(vars.as_slice())?;
+        match weigh(alloc, vars.as_slice(), choices) {
+            Ok(weights) => Ok(Shape {
+                vars,
+                weights,
+                choices,
+            }),
+            Err(_) => Err(ShapeFault::Memory),
+        }
+    }
+
+    pub fn vars(&self) -> &[VarShape]
+        ensures vars { result.now ≡ self.now }
+        ensures shape { IsShape self.now }
+    {
+        self.vars.as_slice()
+    }
+
+    /// How many choices there are.
+    pub fn choices(&self) -> u64
+        ensures { result ≡ choices_of self.now }
+    {
+        self.choices
+    }
+
+    /// What a choice costs.
+    pub fn cost(&self, at: &[u16]) -> u32
+        requires { IsChoice self.now at.now }
+        ensures { result ≡ cost_of self.now at.now }
+    {
+        cost_in(self.vars.as_slice(), at)
+    }
+
+    /// The rank of a choice: by its cost first, and then by its index.
+    pub fn rank(&self, at: &[u16]) -> u64
+        requires { IsChoice self.now at.now }
+        ensures { result ≡ rank_of self.now at.now }
+    {
+        let vars = self.vars.as_slice();
+        let cost = u64::from(cost_in(vars, at));
+        cost * self.choices + index_in(vars, self.weights.as_slice(), at)
+    }
+
+    /// Writes the choice whose index is the remainder of a rank by the number of choices.
+    ///
+    /// The answer is whether that choice has this rank.
+    pub fn unrank_into(&self, rank: u64, at: &mut [u16]) -> bool
+        requires { length at.old ≡ length self.now }
+        ensures choice { IsChoice self.now at.new }
+        ensures index { index_of self.now at.new ≡ rank % choices_of self.now }
+        ensures ranked { IsTrue result ↔ (rank_of self.now at.new ≡ rank) }
+    {
+        choice_of(self.vars.as_slice(), rank, at);
+        self.rank(at) == rank
+    }
+}
+
+#[cfg(test)]
+mod tests {
+    use super::*;
+    use crate::variable::Costs;
+    use std::test::Fail;
+
+    fn of_size(size: u16, costs: Costs) -> VarShape {
+        VarShape { size, costs }
+    }
+
+    // 2^62 * 2 choices that cost nothing: the ranks just fit, and one position more is too wide.
+    #[test]
+    fn widest_shape(rt: HostRuntime) -> Result<(), Fail> {
+        let mut vars = vec![in rt.alloc(); of_size(4, Costs::AllZero); 31]?;
+        vars.push(of_size(2, Costs::AllZero))?;
+        let wider = vars.clone()?;
+        assert!(rt; fits(vars.as_slice()));
+        let shape = Shape::new(rt.alloc(), vars)?;
+        assert_eq!(rt; shape.choices(), 1 << 63);
+        let mut vars = wider;
+        vars.push(of_size(2, Costs::AllZero))?;
+        assert!(rt; fits(vars.as_slice()));
+        assert!(rt; matches!(Shape::new(rt.alloc(), vars), Err(ShapeFault::TooWide { variable: 32 })));
+        Ok(())
+    }
+
+    // Of four positions, of which the first alone costs nothing, position 2 has rank 6.
+    #[test]
+    fn unranks(rt: HostRuntime) -> Result<(), Fail> {
+        let vars = vec![in rt.alloc(); of_size(4, Costs::HomeFirst); 1]?;
+        assert!(rt; fits(vars.as_slice()));
+        let shape = Shape::new(rt.alloc(), vars)?;
+        let mut at = [0];
+        assert!(rt; shape.unrank_into(6, &mut at));
+        assert_eq!(rt; at[0], 2);
+        assert_eq!(rt; shape.rank(&at), 6);
+        assert_eq!(rt; shape.cost(&at), 1);
+        assert!(rt; !shape.unrank_into(2, &mut at));
+        assert_eq!(rt; at[0], 2);
+        assert_eq!(rt; shape.vars().len(), 1);
+        Ok(())
+    }
+}
