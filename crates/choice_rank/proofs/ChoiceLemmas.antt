@@ -100,7 +100,6 @@ pub rank_below : (vs : List VarShape) (xs : List ℕ) → IsNarrow vs → IsChoi
 rank_below vs xs n h =
     omega (arith, index_lt vs xs h, n, mul-le (cost_of vs xs) (choices_of vs) (costs_most vs) (choices_of vs) (cost_le vs xs h) (omega arith))
 
-
 -- the rank, from its parts
 pub rank_fits : (vs : List VarShape) (xs : List ℕ) (cost choices index : ℕ) → IsNarrow vs → IsChoice vs xs → cost ≡ cost_of vs xs → choices ≡ choices_of vs → index ≡ index_of vs xs → cost * choices + index < 2 ^ 63
 rank_fits vs xs cost choices index n h ec es ei =

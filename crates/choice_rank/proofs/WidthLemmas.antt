@@ -81,9 +81,11 @@ module _ (vs : List VarShape) (product most i size cost : ℕ) (g : Grown vs pro
 
   pub grown_wide : HasPositions vs → 2 ^ 63 < (1 + (most + cost)) * (product * size) → (IsNarrow vs → ⊥) × IsFirstWide vs i
   grown_wide h over =
-      let wide : IsNarrow (take (i + 1) vs) → ⊥ = λ n. omega (arith, n, width_next) in
-      (λ n. wide (narrow_take vs (i + 1) h n), record {
-        within = lt;
-        wide = wide;
-        first = λ w l. g.narrow (w + 1) (omega arith);
-      })
+      let wide : IsNarrow (take (i + 1) vs) → ⊥ = λ n. omega (arith, n, width_next) in (
+        λ n. wide (narrow_take vs (i + 1) h n),
+        record {
+          within = lt;
+          wide = wide;
+          first = λ w l. g.narrow (w + 1) (omega arith);
+        },
+      )

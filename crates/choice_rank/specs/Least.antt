@@ -1,5 +1,5 @@
 -- The least choice among those that are legal.
-use Rattle.std.specs.Prelude.{◌≡◌, ◌≤◌, ℕ, List, Bool, true}
+use Rattle.std.specs.Prelude.{◌≡◌, ◌≤◌, ℕ, List, Bool, true, Option, Some, None}
 use Rattle.choice_rank.specs.declared.variable.VarShape.{VarShape}
 use Rattle.choice_rank.specs.Choices.{IsChoice, rank_of}
 
@@ -12,3 +12,8 @@ pub record IsLeast (vars : List VarShape) (legal : List ℕ → Bool) (choice : 
 -- no choice is legal
 abbrev pub NoneLegal : List VarShape → (List ℕ → Bool) → Type 0
 NoneLegal vars legal = (other : List ℕ) → IsChoice vars other → legal other ≡ true → ⊥
+
+-- the rank of the least choice, or that no choice is legal
+abbrev pub IsAnswer : List VarShape → (List ℕ → Bool) → Option ℕ → Type 0
+IsAnswer vars legal None = NoneLegal vars legal
+IsAnswer vars legal (Some rank) = (choice : List ℕ) × IsLeast vars legal choice × (rank_of vars choice ≡ rank)

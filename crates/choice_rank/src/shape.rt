@@ -35,9 +35,7 @@ impl Model for Shape {
 #[derive(Clone, Copy, Debug, PartialEq, Eq)]
 pub enum ShapeFault {
     /// The first variable with which ranks reach 2^63.
-    TooWide {
-        variable: u16,
-    },
+    TooWide { variable: u16 },
     Memory,
 }
 
@@ -169,7 +167,12 @@ mod tests {
         let mut vars = wider;
         vars.push(of_size(2, Costs::AllZero))?;
         assert!(rt; fits(vars.as_slice()));
-        assert!(rt; matches!(Shape::new(rt.alloc(), vars), Err(ShapeFault::TooWide { variable: 32 })));
+        assert!(rt;
+            matches!(
+                Shape::new(rt.alloc(), vars),
+                Err(ShapeFault::TooWide { variable: 32 })
+            )
+        );
         Ok(())
     }
 
