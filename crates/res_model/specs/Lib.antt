@@ -1,9 +1,11 @@
 pub mod IocFaults
 pub mod PinText
 pub mod Placement
+pub mod Json
 pub mod ProjectFaults
 pub mod Signals
 pub mod Steps
+pub mod Table
 pub mod TableFaults
 pub mod UsageFaults
 pub mod Valid
