@@ -2,6 +2,9 @@ pub mod IocFaults
 pub mod PinText
 pub mod Placement
 pub mod Json
+pub mod Lines
+pub mod Numbers
+pub mod Project
 pub mod ProjectFaults
 pub mod Signals
 pub mod Steps
