@@ -1,14 +1,11 @@
 -- The digits of a choice, from the last place to the first.
-use Rattle.std.proofs.Common.{◌≡◌, ℕ, zero, suc, ◌+◌, ◌-◌, ◌*◌, ◌/◌, ◌%◌, ◌^◌, ◌<◌, ◌≤◌, List, [], ◌∷◌, ◌++◌, length, take, drop, get_or, set, refl, subst, ap, sym, ◌∙◌, arith}
-use Rattle.std.proofs.lemmas.Nat.{mul-add-lt, same_from_place, mod-mul-add, div-add-mod', mod_below, mul-le}
+use Rattle.std.proofs.Common.{◌≡◌, ℕ, ◌+◌, ◌-◌, ◌*◌, ◌/◌, ◌%◌, ◌<◌, ◌≤◌, List, ◌∷◌, length, drop, get_or, set, subst, ap, sym, ◌∙◌, arith}
+use Rattle.std.proofs.lemmas.Nat.{mul-add-lt, mod-mul-add, div-add-mod', mod_below}
 use Rattle.std.proofs.lemmas.List.{drop_more, drop-set, length-set}
-use Rattle.std.proofs.Math.Nat.{div-div-eq-div-mul, mul_comm, mul_assoc, mul-div_cancel_left}
-use Rattle.std.proofs.lemmas.Bool.Decides.{nat_tests}
-use Rattle.choice_rank.specs.declared.variable.Costs.{Costs}
-use Rattle.choice_rank.specs.declared.variable.Costs.TheVariants.{HomeFirst, AllZero, AllOne}
+use Rattle.std.proofs.Math.Nat.{div-div-eq-div-mul, mul_comm, mul_assoc}
 use Rattle.choice_rank.specs.declared.variable.VarShape.{VarShape}
-use Rattle.choice_rank.specs.Choices.{IsChoice, choices_of, index_of, cost_at, cost_of, cost_most, costs_most, rank_of, HasPositions, IsNarrow, HasSmallSizes, IsFirstWide}
-use Rattle.choice_rank.proofs.ChoiceLemmas.{nothing, choice_length, choices_more, choices_pos, positions_at, positions_drop}
+use Rattle.choice_rank.specs.Choices.{IsChoice, choices_of, index_of, HasPositions}
+use Rattle.choice_rank.proofs.ChoiceLemmas.{nothing, choices_more, choices_pos, positions_at, positions_drop}
 
 -- a digit of the place s above what is below p
 pub mod_place : (n s p : ℕ) → 0 < s → 0 < p → n % (s * p) ≡ (n / p % s) * p + n % p
@@ -17,7 +14,7 @@ mod_place n s p hs hp =
     let below = mul-add-lt (q % s) p (n % p) s (mod_below q s hs) (mod_below n p hp) in
     let lt : (q % s) * p + n % p < s * p = omega (arith, below) in
     let whole : n ≡ (q / s) * (s * p) + ((q % s) * p + n % p) =
-        omega (arith, div-add-mod' n p, ap (λ m. m * p) (div-add-mod' q s), mul_assoc (q / s) s p) in
+    omega (arith, div-add-mod' n p, ap (λ m. m * p) (div-add-mod' q s), mul_assoc (q / s) s p) in
     ap (λ m. m % (s * p)) whole ∙ mod-mul-add (q / s) (s * p) ((q % s) * p + n % p) lt
 
 pub div_place : (n s p : ℕ) → n / p / s ≡ n / (s * p)
@@ -45,8 +42,8 @@ written_turn vs at rank rest k size positions lt es ps w =
       same_length = omega (arith, length-set at k (rest % size), w.same_length);
       choice = rw (d, dv) (omega (arith, mod_below rest size ps), w.choice);
       index = ap (index_of (drop k vs)) d ∙ ap (λ l. index_of l (rest % size ∷ drop (k + 1) at)) dv
-        ∙ ap (λ i. rest % size * p + i) w.index ∙ ap (λ r. r % size * p + rank % p) w.rest_is
-        ∙ sym (ap (λ m. rank % m) whole ∙ mod_place rank size p ps pp);
+          ∙ ap (λ i. rest % size * p + i) w.index ∙ ap (λ r. r % size * p + rank % p) w.rest_is
+          ∙ sym (ap (λ m. rank % m) whole ∙ mod_place rank size p ps pp);
       rest_is = ap (λ r. r / size) w.rest_is ∙ div_place rank size p ∙ sym (ap (λ m. rank / m) whole);
     }
 
@@ -54,4 +51,3 @@ pub written_back : (vs : List VarShape) (at : List ℕ) (rank rest n size : ℕ)
 written_back vs at rank rest n size positions p q es w =
     let e : n ≡ n - 1 + 1 = omega arith in
     written_turn vs at rank rest (n - 1) size positions (omega arith) es (size_pos vs n size positions p q es) (subst (λ m. Written vs at rank rest m) e w)
-

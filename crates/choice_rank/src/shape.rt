@@ -35,9 +35,7 @@ impl Model for Shape {
 #[derive(Clone, Copy, Debug, PartialEq, Eq)]
 pub enum ShapeFault {
     /// The first variable with which ranks reach 2^63.
-    TooWide {
-        variable: u16,
-    },
+    TooWide { variable: u16 },
     Memory,
 }
 
@@ -148,45 +146,4 @@ impl Shape {
 }
 
 #[cfg(test)]
-mod tests {
-    use super::*;
-    use crate::variable::Costs;
-    use std::test::Fail;
-
-    fn of_size(size: u16, costs: Costs) -> VarShape {
-        VarShape { size, costs }
-    }
-
-    // 2^62 * 2 choices that cost nothing: the ranks just fit, and one position more is too wide.
-    #[test]
-    fn widest_shape(rt: HostRuntime) -> Result<(), Fail> {
-        let mut vars = vec![in rt.alloc(); of_size(4, Costs::AllZero); 31]?;
-        vars.push(of_size(2, Costs::AllZero))?;
-        let wider = vars.clone()?;
-        assert!(rt; fits(vars.as_slice()));
-        let shape = Shape::new(rt.alloc(), vars)?;
-        assert_eq!(rt; shape.choices(), 1 << 63);
-        let mut vars = wider;
-        vars.push(of_size(2, Costs::AllZero))?;
-        assert!(rt; fits(vars.as_slice()));
-        assert!(rt; matches!(Shape::new(rt.alloc(), vars), Err(ShapeFault::TooWide { variable: 32 })));
-        Ok(())
-    }
-
-    // Of four positions, of which the first alone costs nothing, position 2 has rank 6.
-    #[test]
-    fn unranks(rt: HostRuntime) -> Result<(), Fail> {
-        let vars = vec![in rt.alloc(); of_size(4, Costs::HomeFirst); 1]?;
-        assert!(rt; fits(vars.as_slice()));
-        let shape = Shape::new(rt.alloc(), vars)?;
-        let mut at = [0];
-        assert!(rt; shape.unrank_into(6, &mut at));
-        assert_eq!(rt; at[0], 2);
-        assert_eq!(rt; shape.rank(&at), 6);
-        assert_eq!(rt; shape.cost(&at), 1);
-        assert!(rt; !shape.unrank_into(2, &mut at));
-        assert_eq!(rt; at[0], 2);
-        assert_eq!(rt; shape.vars().len(), 1);
-        Ok(())
-    }
-}
+mod tests;

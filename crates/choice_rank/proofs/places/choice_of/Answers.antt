@@ -5,4 +5,4 @@ use Rattle.choice_rank.proofs.places.choice_of.Goals as goal
 pub loop-i-preserved : goal.loop-i-preserved
 loop-i-preserved c =
     written_back c.args.vars.now c.loop-i.at c.args.number c.loop-i.rest c.loop-i.i c.from-size.result
-      c.requires.shape.positions (omega arith) (omega arith) c.from-size.ensures c.loop-i.invariant
+    c.requires.shape.positions (omega arith) (omega arith) c.from-size.ensures c.loop-i.invariant
