@@ -1,13 +1,12 @@
 -- Indices and ranks of choices.
-use Rattle.std.proofs.Common.{◌≡◌, ℕ, zero, suc, ◌+◌, ◌-◌, ◌*◌, ◌/◌, ◌%◌, ◌^◌, ◌<◌, ◌≤◌, List, [], ◌∷◌, length, take, drop, get_or, set, refl, subst, ap, sym, ◌∙◌, arith}
-use Rattle.std.proofs.lemmas.Nat.{mul-add-lt, same_from_place, mod-mul-add, div-add-mod', mod_below, mul-le}
-use Rattle.std.proofs.lemmas.List.{drop_more, drop-set, length-set}
-use Rattle.std.proofs.Math.Nat.{div-div-eq-div-mul, mul_comm, mul_assoc}
+use Rattle.std.proofs.Common.{◌≡◌, ℕ, zero, suc, ◌+◌, ◌*◌, ◌^◌, ◌<◌, ◌≤◌, List, [], ◌∷◌, length, drop, get_or, refl, ap, ◌∙◌, arith}
+use Rattle.std.proofs.lemmas.Nat.{mul-add-lt, same_from_place, mul-le}
+use Rattle.std.proofs.lemmas.List.{drop_more}
 use Rattle.std.proofs.lemmas.Bool.Decides.{nat_tests}
 use Rattle.choice_rank.specs.declared.variable.Costs.{Costs}
 use Rattle.choice_rank.specs.declared.variable.Costs.TheVariants.{HomeFirst, AllZero, AllOne}
 use Rattle.choice_rank.specs.declared.variable.VarShape.{VarShape}
-use Rattle.choice_rank.specs.Choices.{IsChoice, choices_of, index_of, cost_at, cost_of, cost_most, costs_most, rank_of, HasPositions, IsNarrow, HasSmallSizes}
+use Rattle.choice_rank.specs.Choices.{IsChoice, choices_of, index_of, cost_at, cost_of, cost_most, costs_most, rank_of, HasPositions, IsNarrow}
 
 pub index_lt : (vs : List VarShape) (xs : List ℕ) → IsChoice vs xs → index_of vs xs < choices_of vs
 index_lt [] [] h = omega arith

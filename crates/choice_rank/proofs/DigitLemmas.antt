@@ -1,14 +1,11 @@
 -- The digits of a choice, from the last place to the first.
-use Rattle.std.proofs.Common.{◌≡◌, ℕ, zero, suc, ◌+◌, ◌-◌, ◌*◌, ◌/◌, ◌%◌, ◌^◌, ◌<◌, ◌≤◌, List, [], ◌∷◌, ◌++◌, length, take, drop, get_or, set, refl, subst, ap, sym, ◌∙◌, arith}
-use Rattle.std.proofs.lemmas.Nat.{mul-add-lt, same_from_place, mod-mul-add, div-add-mod', mod_below, mul-le}
+use Rattle.std.proofs.Common.{◌≡◌, ℕ, ◌+◌, ◌-◌, ◌*◌, ◌/◌, ◌%◌, ◌<◌, ◌≤◌, List, ◌∷◌, length, drop, get_or, set, subst, ap, sym, ◌∙◌, arith}
+use Rattle.std.proofs.lemmas.Nat.{mul-add-lt, mod-mul-add, div-add-mod', mod_below}
 use Rattle.std.proofs.lemmas.List.{drop_more, drop-set, length-set}
-use Rattle.std.proofs.Math.Nat.{div-div-eq-div-mul, mul_comm, mul_assoc, mul-div_cancel_left}
-use Rattle.std.proofs.lemmas.Bool.Decides.{nat_tests}
-use Rattle.choice_rank.specs.declared.variable.Costs.{Costs}
-use Rattle.choice_rank.specs.declared.variable.Costs.TheVariants.{HomeFirst, AllZero, AllOne}
+use Rattle.std.proofs.Math.Nat.{div-div-eq-div-mul, mul_comm, mul_assoc}
 use Rattle.choice_rank.specs.declared.variable.VarShape.{VarShape}
-use Rattle.choice_rank.specs.Choices.{IsChoice, choices_of, index_of, cost_at, cost_of, cost_most, costs_most, rank_of, HasPositions, IsNarrow, HasSmallSizes, IsFirstWide}
-use Rattle.choice_rank.proofs.ChoiceLemmas.{nothing, choice_length, choices_more, choices_pos, positions_at, positions_drop}
+use Rattle.choice_rank.specs.Choices.{IsChoice, choices_of, index_of, HasPositions}
+use Rattle.choice_rank.proofs.ChoiceLemmas.{nothing, choices_more, choices_pos, positions_at, positions_drop}
 
 -- a digit of the place s above what is below p
 pub mod_place : (n s p : ℕ) → 0 < s → 0 < p → n % (s * p) ≡ (n / p % s) * p + n % p

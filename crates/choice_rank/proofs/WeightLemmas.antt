@@ -1,15 +1,11 @@
 -- The weights of the places.
-use Rattle.std.proofs.Common.{◌≡◌, ℕ, zero, suc, ◌+◌, ◌-◌, ◌*◌, ◌/◌, ◌%◌, ◌^◌, ◌<◌, ◌≤◌, List, [], ◌∷◌, ◌++◌, length, take, drop, get_or, append_assoc, set, refl, subst, ap, sym, ◌∙◌, arith}
-use Rattle.std.proofs.lemmas.Nat.{mul-add-lt, same_from_place, mod-mul-add, div-add-mod', mod_below, mul-le}
-use Rattle.std.proofs.lemmas.List.{drop_more, drop-set, length-set}
-use Rattle.std.proofs.Math.Nat.{div-div-eq-div-mul, mul_comm, mul_assoc, mul-div_cancel_left}
-use Rattle.std.proofs.lemmas.Bool.Decides.{nat_tests}
-use Rattle.choice_rank.specs.declared.variable.Costs.{Costs}
-use Rattle.choice_rank.specs.declared.variable.Costs.TheVariants.{HomeFirst, AllZero, AllOne}
+use Rattle.std.proofs.Common.{◌≡◌, ℕ, zero, suc, ◌+◌, ◌*◌, ◌/◌, ◌^◌, ◌<◌, List, [], ◌∷◌, ◌++◌, length, drop, get_or, append_assoc, refl, ap, sym, ◌∙◌, arith}
+use Rattle.std.proofs.lemmas.List.{drop_more}
+use Rattle.std.proofs.Math.Nat.{mul-div_cancel_left}
 use Rattle.choice_rank.specs.declared.variable.VarShape.{VarShape}
-use Rattle.choice_rank.specs.Choices.{IsChoice, choices_of, index_of, cost_at, cost_of, cost_most, costs_most, rank_of, HasPositions, IsNarrow, HasSmallSizes, IsFirstWide}
+use Rattle.choice_rank.specs.Choices.{IsChoice, choices_of, index_of, HasPositions, IsNarrow}
 use Rattle.choice_rank.specs.Weights.{weights_of}
-use Rattle.choice_rank.proofs.ChoiceLemmas.{nothing, choice_length, choices_more, choices_pos, index_more, index_below, positions_at, positions_drop}
+use Rattle.choice_rank.proofs.ChoiceLemmas.{nothing, choice_length, choices_more, index_more, index_below, positions_at}
 
 pub length_weights : (vs : List VarShape) → length (weights_of vs) ≡ length vs
 length_weights [] = refl

@@ -1,15 +1,14 @@
 -- How choices and costs grow with each variable.
-use Rattle.std.proofs.Common.{◌≡◌, ℕ, zero, suc, ◌+◌, ◌-◌, ◌*◌, ◌/◌, ◌%◌, ◌^◌, ◌<◌, ◌≤◌, List, [], ◌∷◌, ◌++◌, length, take, drop, get_or, set, refl, subst, ap, sym, ◌∙◌, inl, inr, arith}
-use Rattle.std.proofs.lemmas.Nat.{mul-add-lt, same_from_place, mod-mul-add, div-add-mod', mod_below, mul-le}
-use Rattle.std.proofs.lemmas.List.{drop_more, drop-set, length-set}
-use Rattle.std.proofs.Math.Nat.{div-div-eq-div-mul, mul_comm, mul_assoc, mul-div_cancel_left}
+use Rattle.std.proofs.Common.{◌≡◌, ℕ, zero, suc, ◌+◌, ◌*◌, ◌^◌, ◌<◌, ◌≤◌, List, [], ◌∷◌, length, take, get_or, ap, sym, ◌∙◌, inl, inr, arith}
+use Rattle.std.proofs.lemmas.Nat.{mul-le}
+use Rattle.std.proofs.Math.Nat.{mul_assoc}
 use Rattle.std.proofs.lemmas.Bool.Decides.{nat_tests}
 use Rattle.choice_rank.specs.declared.variable.Costs.{Costs}
 use Rattle.choice_rank.specs.declared.variable.Costs.TheVariants.{HomeFirst, AllZero, AllOne}
 use Rattle.choice_rank.specs.declared.variable.VarShape.{VarShape}
-use Rattle.choice_rank.specs.Choices.{IsChoice, choices_of, index_of, cost_at, cost_of, cost_most, costs_most, rank_of, HasPositions, IsNarrow, HasSmallSizes, IsFirstWide}
+use Rattle.choice_rank.specs.Choices.{choices_of, cost_most, costs_most, HasPositions, IsNarrow, HasSmallSizes, IsFirstWide}
 use Rattle.res_base.proofs.SumLemmas.{le_or}
-use Rattle.choice_rank.proofs.ChoiceLemmas.{nothing, choices_pos, positions_at}
+use Rattle.choice_rank.proofs.ChoiceLemmas.{nothing, choices_pos}
 
 -- one variable more
 pub choices_grow : (vs : List VarShape) (i : ℕ) → i < length vs → choices_of (take (suc i) vs) ≡ choices_of (take i vs) * (get_or vs i nothing).size

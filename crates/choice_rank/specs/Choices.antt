@@ -1,6 +1,6 @@
 -- Choices of a shape, their costs, indices and ranks.
 use Rattle.res_base.specs.Lists.{Each}
-use Rattle.std.specs.Prelude.{◌≡◌, ℕ, ◌+◌, ◌*◌, ◌^◌, ◌≤◌, ◌<◌, ◌-◌, List, [], ◌∷◌, length, take, if◌then◌else◌, ◌==◌, nat_lt}
+use Rattle.std.specs.Prelude.{ℕ, ◌+◌, ◌*◌, ◌^◌, ◌≤◌, ◌<◌, List, [], ◌∷◌, length, take, if◌then◌else◌, ◌==◌, nat_lt}
 use Rattle.choice_rank.specs.declared.variable.Costs.{Costs}
 use Rattle.choice_rank.specs.declared.variable.Costs.TheVariants.{HomeFirst, AllZero, AllOne}
 use Rattle.choice_rank.specs.declared.variable.VarShape.{VarShape}

@@ -1,4 +1,4 @@
-use Rattle.std.proofs.Common.{◌∙◌, arith}
+use Rattle.std.proofs.Common.{arith}
 use Rattle.choice_rank.proofs.ChoiceLemmas.{choice_length, cost_more, cost_at_le, nothing}
 use Rattle.choice_rank.proofs.places.cost_in.Goals as goal
 

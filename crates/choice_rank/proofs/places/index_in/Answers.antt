@@ -1,5 +1,4 @@
-use Rattle.std.proofs.Common.{ℕ, ◌+◌, ◌*◌, ◌<◌, ◌^◌, get_or, length, refl, ap, arith}
-use Rattle.choice_rank.specs.Weights.{weights_of}
+use Rattle.std.proofs.Common.{ℕ, get_or, length, refl, ap, arith}
 use Rattle.choice_rank.proofs.ChoiceLemmas.{choice_length}
 use Rattle.choice_rank.proofs.WeightLemmas.{index_next, index_part, length_weights}
 use Rattle.choice_rank.proofs.places.index_in.Goals as goal

@@ -1,4 +1,4 @@
-use Rattle.std.proofs.Common.{◌∙◌, arith}
+use Rattle.std.proofs.Common.{◌∙◌}
 use Rattle.choice_rank.proofs.WidthLemmas.{grown_next, grown_wide}
 use Rattle.choice_rank.proofs.shape.measured.Goals as goal
 

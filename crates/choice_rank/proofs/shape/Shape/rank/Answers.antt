@@ -1,5 +1,5 @@
 use Rattle.std.proofs.Common.{◌≡◌, refl, rules, arith}
-use Rattle.choice_rank.specs.Choices.{IsChoice, IsNarrow, choices_of, cost_of, index_of}
+use Rattle.choice_rank.specs.Choices.{IsChoice, cost_of, index_of}
 use Rattle.choice_rank.proofs.ChoiceLemmas.{rank_fits}
 use Rattle.choice_rank.proofs.shape.Shape.rank.Goals as goal
 
