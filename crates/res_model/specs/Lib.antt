@@ -1,9 +1,9 @@
 pub mod IocFaults
-pub mod PinText
-pub mod Placement
 pub mod Json
 pub mod Lines
 pub mod Numbers
+pub mod PinText
+pub mod Placement
 pub mod Project
 pub mod ProjectFaults
 pub mod Signals
