@@ -3,6 +3,7 @@ pub mod Json
 pub mod Lines
 pub mod Numbers
 pub mod PinText
+pub mod Placeable
 pub mod Placement
 pub mod Project
 pub mod ProjectFaults
