@@ -14,3 +14,4 @@ pub mod TableFaults
 pub mod UsageFaults
 pub mod Valid
 pub mod Values
+pub mod Words

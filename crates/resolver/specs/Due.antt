@@ -1,6 +1,6 @@
 -- The status and the text that are due for words and files, where nothing of the outside fails.
-use Rattle.std.specs.Prelude.{◌≡◌, ℕ, List, [], ◌∷◌, ◌++◌, length, Bool, true, false, nat_lt, Option, Some, None, Result, Ok, Err, MatchResult, MatchBool, ⊤, codes, decimal}
-use Rattle.choice_rank.specs.Choices.{choices_of, cost_of, rank_of}
+use Rattle.std.specs.Prelude.{◌≡◌, ◌<◌, ℕ, List, [], ◌∷◌, ◌++◌, length, Bool, true, false, nat_lt, Option, Some, None, Result, Ok, Err, MatchResult, MatchBool, ⊤, codes, decimal}
+use Rattle.choice_rank.specs.Choices.{IsNarrow, IsFirstWide, choices_of, cost_of, rank_of}
 use Rattle.choice_rank.specs.Least.{IsLeast, NoneLegal}
 use Rattle.res_model.specs.declared.command.Command.{Command}
 use Rattle.res_model.specs.declared.command.Command.TheVariants.{Pins, Tree, Resolve, Check, Case}
@@ -24,6 +24,10 @@ use Rattle.resolver.specs.Refusals.{table_refusal, text_refusal, project_refusal
 abbrev pub most_bytes : ℕ
 most_bytes = 67108864
 
+-- the most choices that are walked
+abbrev pub most_walked : ℕ
+most_walked = 65536
+
 -- this status, and a line of this text
 abbrev pub Says : ℕ → List ℕ → ℕ → List ℕ → Type 0
 Says status text s t = (status ≡ s) × (text ≡ t ++ 10 ∷ [])
@@ -38,14 +42,13 @@ placement_text t ss c =
     rank_line (rank_of (pin_variables t ss) c) (cost_of (pin_variables t ss) c) (choices_of (pin_variables t ss))
     ++ pins_text t ss (uses_at (pin_values t ss) c)
 
--- the least placement that fits, or that there is none
-pub data Placed (t : TableParts) (ss : List Signal) : ℕ → List ℕ → Type 0 where
-  least : (c : List ℕ) → IsLeast (pin_variables t ss) (legal_pins t ss) c → Placed t ss 0 (placement_text t ss c)
-  none : NoneLegal (pin_variables t ss) (legal_pins t ss) → Placed t ss 1 (codes "no choice" ++ 10 ∷ [])
-
--- more choices than these are not searched yet
-abbrev pub OfSignals : TableParts → List Signal → ℕ → List ℕ → Type 0
-OfSignals t ss s x = MatchBool (nat_lt 65536 (choices_of (pin_variables t ss))) (Says s x 11 (codes "not built: choices")) (Placed t ss s x)
+-- what is due for signals: that ranks would not fit, by the first variable with which they do not; for now, that there are
+-- more choices than are walked; else the least placement that fits, or that there is none
+pub data OfSignals (t : TableParts) (ss : List Signal) : ℕ → List ℕ → Type 0 where
+  wide : (v : ℕ) → IsFirstWide (pin_variables t ss) v → OfSignals t ss 7 ((codes "too wide: variable " ++ decimal v) ++ 10 ∷ [])
+  many : IsNarrow (pin_variables t ss) → most_walked < choices_of (pin_variables t ss) → OfSignals t ss 11 (codes "not built: choices" ++ 10 ∷ [])
+  least : IsNarrow (pin_variables t ss) → (c : List ℕ) → IsLeast (pin_variables t ss) (legal_pins t ss) c → OfSignals t ss 0 (placement_text t ss c)
+  none : IsNarrow (pin_variables t ss) → NoneLegal (pin_variables t ss) (legal_pins t ss) → OfSignals t ss 1 (codes "no choice" ++ 10 ∷ [])
 
 -- where the table is taken: the project's text, then the project
 abbrev pub OfTable : TableParts → List ℕ → Opts → ℕ → List ℕ → Type 0

@@ -95,10 +95,11 @@ fn put_pin_lines(
 }
 
 #[tactic(auto, unfolding(res_model::specs::PinText::rank_line))]
-fn rank_line(alloc: Global, rank: u64, cost: u32, choices: u64) -> Result<String, AllocError>
+fn rank_line(alloc: Global, rank: u64, cost: u64, choices: u64) -> Result<String, AllocError>
     ensures { IfOk result (λ x. string_bytes x ≡ rank_line rank cost choices) }
 {
-    format!(in alloc; "rank {rank} cost {cost} of {choices}\n")
+    let line = format!(in alloc; "rank {rank} cost {cost} of {choices}\n")?;
+    Ok(line)
 }
 
 #[tactic(auto, unfolding(res_model::specs::PinText::count_line))]
@@ -118,7 +119,7 @@ pub(crate) fn put_rank_line(
 ) -> Result<(), AllocError>
     ensures { OnOk result (out.new.items ≡ out.old.items ++ rank_line rank cost choices) }
 {
-    let line = rank_line(alloc, rank, cost, choices)?;
+    let line = rank_line(alloc, rank, u64::from(cost), choices)?;
     out.extend_from_slice(line.as_bytes())?;
     Ok(())
 }
