@@ -1,13 +1,17 @@
-ghost use Rattle.std.specs.Prelude.{◌≡◌, Option, Some, None, List, ℕ, ◌<◌, ◌≤◌, drop, vec_len, slice_index, IfSome, IsSome, OnOk};
-ghost use Rattle.res_io.specs.Causes.{Rose};
-ghost use Rattle.res_io.specs.Files.{place_in, bytes_in, bytes_from, count_at};
+ghost use Rattle.std.specs.Prelude.{◌≡◌, Option, Some, None, [], ℕ, ◌<◌, ◌≤◌, ◌+◌, ◌-◌, ◌^◌, min, take, length, vec_len, slice_index, IfOk, IfSome, OnOk, OnErr, IsErrOf, IsSome};
+ghost use Rattle.std.specs.Io.KnownBytes.{Consumes, IsAtEnd};
+ghost use Rattle.res_io.specs.Bytes.{file_of, IsWhole};
+ghost use Rattle.res_io.specs.Calls.{one_more, is_listed};
+ghost use Rattle.res_io.specs.Causes.{Rose, NoneFell};
+ghost use Rattle.res_io.specs.Files.{place_in, bytes_in, count_at};
 
 use crate::inputs::{BeginFault, Inputs};
 use crate::memory::MemFile;
-use crate::shelf::{Shelf, place_of};
+use crate::shelf::Shelf;
 use crate::sink::Failed;
 use res_base::OutOfMemory;
 use std::alloc::Global;
+use std::marker::Model;
 
 /// Inputs in memory: calls of `begin` and `take` are numbered together from 0, and those listed fail.
 ///
@@ -21,8 +25,27 @@ pub struct MemInputs {
     failing: Vec<u64>,
     piece: usize,
     calls: u64,
-    ghost some: { 0 < piece },
-    ghost counted: { IsSome shelf.name → vec_len shelf.files ≤ vec_len counts },
+}
+
+impl Model for MemInputs {
+    ghost use Rattle.std.specs.Prelude.{◌<◌, ◌≤◌, length, vec_len, IsSome};
+    ghost use Rattle.res_io.specs.MemInputs.{InputsState};
+
+    ghost Value = { InputsState };
+
+    ghost view = { λ s. record { shelf = s.shelf; counts = s.counts.items; others = s.others; failing = s.failing.items; calls = s.calls; piece = s.piece } };
+
+    ghost invariant = { λ s. (0 < s.piece) × (IsSome s.shelf.name → length s.shelf.files ≤ vec_len s.counts) };
+}
+
+/// Counts a call, and says whether it is to fail.
+fn is_to_fail(calls: &mut u64, failing: &[u64]) -> bool
+    ensures result { result ≡ is_listed failing.now calls.old }
+    ensures calls { calls.new ≡ one_more calls.old }
+{
+    let call = *calls;
+    *calls = call.saturating_add(1);
+    failing.contains(&call)
 }
 
 /// Raises the count at a place.
@@ -51,14 +74,14 @@ fn fill(counts: &mut Vec<u64>, files: usize) -> Result<(), OutOfMemory>
 }
 
 impl MemInputs {
-    ghost use Rattle.std.specs.Prelude.{Some, None, drop, IsSome};
-    ghost use Rattle.res_io.specs.Files.{place_in, bytes_in, bytes_from, count_at};
+    ghost use Rattle.std.specs.Prelude.{◌≡◌, None, []};
 
     pub fn new(alloc: Global, files: Vec<MemFile>, failing: Vec<u64>, piece: usize) -> MemInputs
         requires { 0 < piece }
-        ensures files { ⟦<MemInputs as Inputs>⟧.files result ≡ Some (bytes_in files.items) }
-        ensures closed { ⟦<MemInputs as Inputs>⟧.current result ≡ None }
-        ensures faults { (name : List ℕ) → ⟦<MemInputs as Inputs>⟧.faults result name ≡ 0 }
+        ensures files { result.shelf.files ≡ files.items }
+        ensures closed { result.shelf.name ≡ None }
+        ensures counts { (result.counts ≡ []) × (result.others ≡ 0) }
+        ensures calls { (result.failing ≡ failing.items) × (result.calls ≡ 0) × (result.piece ≡ piece) }
     {
         MemInputs {
             shelf: Shelf::new(files),
@@ -69,57 +92,44 @@ impl MemInputs {
             calls: 0,
         }
     }
-
-    /// Counts a call, and says whether it is to fail.
-    fn fails(&mut self) -> bool
-        ensures shelf { self.new.shelf ≡ self.old.shelf }
-        ensures counts { self.new.counts ≡ self.old.counts }
-        ensures others { self.new.others ≡ self.old.others }
-        ensures piece { self.new.piece ≡ self.old.piece }
-    {
-        let call = self.calls;
-        self.calls = call.saturating_add(1);
-        self.failing.contains(&call)
-    }
 }
 
 impl Inputs for MemInputs {
-    ghost use Rattle.std.specs.Prelude.{Some, drop};
-    ghost use Rattle.res_io.specs.Files.{place_in, bytes_in, bytes_from, count_at};
+    ghost use Rattle.std.specs.Prelude.{◌≡◌, Some};
+    ghost use Rattle.res_io.specs.Files.{place_in, bytes_in, count_at};
+    ghost use Rattle.res_io.specs.MemInputs.{begin_fails, FailsExactly, take_answer};
 
-    ghost files = { λ s. Some (bytes_in s.shelf.files.items) };
+    ghost files = { λ s. Some (bytes_in s.shelf.files) };
 
     ghost current = { λ s. s.shelf.name };
 
-    ghost left = { λ s. Some (drop s.shelf.at (bytes_from s.shelf.files.items s.shelf.place)) };
+    ghost left = { λ s. Some s.shelf.rest };
 
     ghost taken = { λ s. s.shelf.taken };
 
-    ghost faults = { λ s name. count_at s.counts.items s.others (place_in s.shelf.files.items name) };
+    ghost faults = { λ s name. count_at s.counts s.others (place_in s.shelf.files name) };
 
     fn begin(&mut self, alloc: Global, name: &str) -> Result<(), BeginFault> {
-        let fails = self.fails();
+        let fails = is_to_fail(&mut self.calls, self.failing.as_slice());
         self.shelf.close();
-        if fill(&mut self.counts, self.shelf.files.len()).is_err() {
+        if fill(&mut self.counts, self.shelf.len()).is_err() {
             return Err(BeginFault::Memory);
         }
-        let place = place_of(self.shelf.files.as_slice(), name);
-        let Some(i) = place else {
-            raise(&mut self.counts, &mut self.others, place);
-            return Err(BeginFault::Failed);
-        };
-        if fails {
-            raise(&mut self.counts, &mut self.others, place);
-            return Err(BeginFault::Failed);
-        }
-        match self.shelf.open(alloc, name, i) {
-            Ok(()) => Ok(()),
-            Err(OutOfMemory) => Err(BeginFault::Memory),
+        let place = self.shelf.find(name);
+        match place {
+            Some(i) if !fails => match self.shelf.open(alloc, name, i) {
+                Ok(()) => Ok(()),
+                Err(OutOfMemory) => Err(BeginFault::Memory),
+            },
+            _ => {
+                raise(&mut self.counts, &mut self.others, place);
+                Err(BeginFault::Failed)
+            }
         }
     }
 
     fn take(&mut self, buf: &mut [u8]) -> Result<usize, Failed> {
-        if self.fails() {
+        if is_to_fail(&mut self.calls, self.failing.as_slice()) {
             let place = self.shelf.open_place();
             raise(&mut self.counts, &mut self.others, place);
             return Err(Failed);
