@@ -1,4 +1,4 @@
-ghost use Rattle.std.specs.Prelude.{◌≡◌, Some, None, [], unwrap_or, OnOk};
+ghost use Rattle.std.specs.Prelude.{◌≡◌, ◌≢◌, ◌+◌, ◌-◌, ◌^◌, min, Some, None, [], take, drop, length, unwrap_or, OnOk, OnErr, IfOk};
 ghost use Rattle.res_io.specs.Files.{bytes_in};
 
 use crate::inputs::{BeginFault, Inputs};
@@ -48,7 +48,11 @@ impl Inputs for SureInputs {
 
     ghost faults = { λ _ _. 0 };
 
-    fn begin(&mut self, alloc: Global, name: &str) -> Result<(), BeginFault> {
+    fn begin(&mut self, alloc: Global, name: &str) -> Result<(), BeginFault>
+        ensures ok { OnOk result (self.new ≡ record { files = self.old.files; name = Some name.now; rest = unwrap_or (bytes_in self.old.files name.now) []; taken = 0 }) }
+        ensures err { OnErr result (self.new ≡ record self.old { name = None }) }
+        ensures sure { result ≢ Err BeginFault.Failed }
+    {
         let beyond = self.shelf.len();
         let place = self.shelf.find(name).unwrap_or(beyond);
         match self.shelf.open(alloc, name, place) {
@@ -57,7 +61,11 @@ impl Inputs for SureInputs {
         }
     }
 
-    fn take(&mut self, buf: &mut [u8]) -> Result<usize, Failed> {
+    fn take(&mut self, buf: &mut [u8]) -> Result<usize, Failed>
+        ensures answer { result ≡ Ok (min (length buf.old) (length self.old.rest)) }
+        ensures bytes { IfOk result (λ n. take n buf.new ≡ take n self.old.rest) }
+        ensures state { IfOk result (λ n. self.new ≡ record self.old { rest = drop n self.old.rest; taken = min (self.old.taken + n) (2 ^ 64 - 1) }) }
+    {
         Ok(self.shelf.give(buf, usize::MAX))
     }
 }
@@ -71,7 +79,9 @@ impl Sink for SureSink {
 
     ghost faults = { λ _. 0 };
 
-    fn put(&mut self, piece: &[u8]) -> Result<usize, Failed> {
+    fn put(&mut self, piece: &[u8]) -> Result<usize, Failed>
+        ensures { result ≡ Ok (length piece.now) }
+    {
         Ok(piece.len())
     }
 }
