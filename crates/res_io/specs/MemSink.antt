@@ -32,4 +32,5 @@ after_put s bytes =
     else record s {
       written = s.written ++ take (put_count s (length bytes)) bytes;
       calls = one_more s.calls;
-      room = s.room - put_count s (length bytes) }
+      room = s.room - put_count s (length bytes);
+    }

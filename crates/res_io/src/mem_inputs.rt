@@ -1,9 +1,7 @@
-ghost use Rattle.std.specs.Prelude.{◌≡◌, Option, Some, None, [], ℕ, ◌<◌, ◌≤◌, ◌+◌, ◌-◌, ◌^◌, min, take, length, vec_len, slice_index, IfOk, IfSome, OnOk, OnErr, IsErrOf, IsSome};
-ghost use Rattle.std.specs.Io.KnownBytes.{Consumes, IsAtEnd};
-ghost use Rattle.res_io.specs.Bytes.{file_of, IsWhole};
+ghost use Rattle.std.specs.Prelude.{◌≡◌, Option, Some, None, [], ℕ, ◌<◌, ◌≤◌, ◌+◌, ◌-◌, ◌^◌, ◌↔◌, true, false, min, take, drop, length, vec_len, slice_index, unwrap_or, IfOk, IfSome, OnOk, OnErr, IsErr, IsErrOf, IsSome, IsTrue};
 ghost use Rattle.res_io.specs.Calls.{one_more, is_listed};
 ghost use Rattle.res_io.specs.Causes.{Rose, NoneFell};
-ghost use Rattle.res_io.specs.Files.{place_in, bytes_in, count_at};
+ghost use Rattle.res_io.specs.Files.{bytes_in, count_at};
 
 use crate::inputs::{BeginFault, Inputs};
 use crate::memory::MemFile;
@@ -95,9 +93,9 @@ impl MemInputs {
 }
 
 impl Inputs for MemInputs {
-    ghost use Rattle.std.specs.Prelude.{◌≡◌, Some};
-    ghost use Rattle.res_io.specs.Files.{place_in, bytes_in, count_at};
-    ghost use Rattle.res_io.specs.MemInputs.{begin_fails, FailsExactly, take_answer};
+    ghost use Rattle.std.specs.Prelude.{Some};
+    ghost use Rattle.res_io.specs.Files.{bytes_in};
+    ghost use Rattle.res_io.specs.MemInputs.{faults_of, is_due, begin_fails, IsOneCallOn};
 
     ghost files = { λ s. Some (bytes_in s.shelf.files) };
 
@@ -107,9 +105,20 @@ impl Inputs for MemInputs {
 
     ghost taken = { λ s. s.shelf.taken };
 
-    ghost faults = { λ s name. count_at s.counts s.others (place_in s.shelf.files name) };
+    ghost faults = { faults_of };
 
-    fn begin(&mut self, alloc: Global, name: &str) -> Result<(), BeginFault> {
+    fn begin(&mut self, alloc: Global, name: &str) -> Result<(), BeginFault>
+        ensures ok { OnOk result (self.new.shelf ≡ record { files = self.old.shelf.files; name = Some name.now; rest = unwrap_or (bytes_in self.old.shelf.files name.now) []; taken = 0 }) }
+        ensures err { OnErr result (self.new.shelf ≡ record self.old.shelf { name = None }) }
+        ensures later { NoneFell (faults_of self.old) (faults_of self.new) }
+        ensures failed { IsErrOf result BeginFault.Failed
+            → Rose (faults_of self.old name.now) (faults_of self.new name.now) }
+
+        // Want of memory aside, it fails exactly at a listed call and at an unknown name.
+        ensures fails { IsErrOf result BeginFault.Failed → begin_fails self.old name.now ≡ true }
+        ensures opens { OnOk result (begin_fails self.old name.now ≡ false) }
+        ensures calls { IsOneCallOn self.old self.new }
+    {
         let fails = is_to_fail(&mut self.calls, self.failing.as_slice());
         self.shelf.close();
         if fill(&mut self.counts, self.shelf.len()).is_err() {
@@ -128,7 +137,22 @@ impl Inputs for MemInputs {
         }
     }
 
-    fn take(&mut self, buf: &mut [u8]) -> Result<usize, Failed> {
+    fn take(&mut self, buf: &mut [u8]) -> Result<usize, Failed>
+        requires is_open { IsSome self.old.shelf.name }
+        requires room { 0 < length buf.old }
+        ensures ok { IfOk result (λ n. self.new.shelf ≡ record self.old.shelf { rest = drop n self.old.shelf.rest; taken = min (self.old.shelf.taken + n) (2 ^ 64 - 1) }) }
+        ensures err { OnErr result (self.new.shelf ≡ self.old.shelf) }
+        ensures bytes { IfOk result (λ n. take n buf.new ≡ take n self.old.shelf.rest) }
+        ensures end { IfOk result (λ n. n ≡ 0 → self.new.shelf.rest ≡ []) }
+        ensures later { NoneFell (faults_of self.old) (faults_of self.new) }
+        ensures failed { OnErr result (IfSome self.old.shelf.name
+            (λ name. Rose (faults_of self.old name) (faults_of self.new name))) }
+
+        // It fails exactly at a listed call, and gives as much as the piece, the buffer and the rest allow.
+        ensures fails { IsErr result ↔ IsTrue (is_due self.old) }
+        ensures count { IfOk result (λ n. n ≡ min (min self.old.piece (length buf.old)) (length self.old.shelf.rest)) }
+        ensures calls { IsOneCallOn self.old self.new }
+    {
         if is_to_fail(&mut self.calls, self.failing.as_slice()) {
             let place = self.shelf.open_place();
             raise(&mut self.counts, &mut self.others, place);
