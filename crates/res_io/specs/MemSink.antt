@@ -1,6 +1,6 @@
 -- A sink in memory, as its user sees it, and what a put makes of it.
-use Rattle.std.specs.Prelude.{ℕ, ◌+◌, ◌-◌, ◌^◌, min, Bool, ◌||◌, ◌==◌, List, ◌++◌, length, take, Result, Ok, Err, if◌then◌else◌}
-use Rattle.std.specs.List.{list_any}
+use Rattle.std.specs.Prelude.{ℕ, ◌-◌, min, Bool, ◌||◌, ◌==◌, List, ◌++◌, length, take, Result, Ok, Err, if◌then◌else◌}
+use Rattle.res_io.specs.Calls.{one_more, is_listed}
 use Rattle.res_io.specs.declared.sink.Failed.{Failed}
 
 -- the bytes written, the count of faults, the numbers of the puts that fail, how many puts came, the most
@@ -12,14 +12,6 @@ pub record SinkState : Type 0 where
   pub calls : ℕ
   pub piece : ℕ
   pub room : ℕ
-
--- one more, up to the counter's last value
-abbrev pub one_more : ℕ → ℕ
-one_more n = min (n + 1) (2 ^ 64 - 1)
-
--- this number is listed
-abbrev pub is_listed : List ℕ → ℕ → Bool
-is_listed numbers n = list_any (λ k. k == n) numbers
 
 -- a put fails where its number is listed, and where no room is left
 abbrev pub put_fails : SinkState → Bool
@@ -40,4 +32,5 @@ after_put s bytes =
     else record s {
       written = s.written ++ take (put_count s (length bytes)) bytes;
       calls = one_more s.calls;
-      room = s.room - put_count s (length bytes) }
+      room = s.room - put_count s (length bytes);
+    }

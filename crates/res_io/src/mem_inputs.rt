@@ -1,13 +1,15 @@
-ghost use Rattle.std.specs.Prelude.{◌≡◌, Option, Some, None, List, ℕ, ◌<◌, ◌≤◌, drop, vec_len, slice_index, IfSome, IsSome, OnOk};
-ghost use Rattle.res_io.specs.Causes.{Rose};
-ghost use Rattle.res_io.specs.Files.{place_in, bytes_in, bytes_from, count_at};
+ghost use Rattle.std.specs.Prelude.{◌≡◌, Option, Some, None, [], ℕ, ◌<◌, ◌≤◌, ◌+◌, ◌-◌, ◌^◌, ◌↔◌, true, false, min, take, drop, length, vec_len, slice_index, unwrap_or, IfOk, IfSome, OnOk, OnErr, IsErr, IsErrOf, IsSome, IsTrue};
+ghost use Rattle.res_io.specs.Calls.{one_more, is_listed};
+ghost use Rattle.res_io.specs.Causes.{Rose, NoneFell};
+ghost use Rattle.res_io.specs.Files.{bytes_in, count_at};
 
 use crate::inputs::{BeginFault, Inputs};
 use crate::memory::MemFile;
-use crate::shelf::{Shelf, place_of};
+use crate::shelf::Shelf;
 use crate::sink::Failed;
 use res_base::OutOfMemory;
 use std::alloc::Global;
+use std::marker::Model;
 
 /// Inputs in memory: calls of `begin` and `take` are numbered together from 0, and those listed fail.
 ///
@@ -21,8 +23,27 @@ pub struct MemInputs {
     failing: Vec<u64>,
     piece: usize,
     calls: u64,
-    ghost some: { 0 < piece },
-    ghost counted: { IsSome shelf.name → vec_len shelf.files ≤ vec_len counts },
+}
+
+impl Model for MemInputs {
+    ghost use Rattle.std.specs.Prelude.{◌<◌, ◌≤◌, length, vec_len, IsSome};
+    ghost use Rattle.res_io.specs.MemInputs.{InputsState};
+
+    ghost Value = { InputsState };
+
+    ghost view = { λ s. record { shelf = s.shelf; counts = s.counts.items; others = s.others; failing = s.failing.items; calls = s.calls; piece = s.piece } };
+
+    ghost invariant = { λ s. (0 < s.piece) × (IsSome s.shelf.name → length s.shelf.files ≤ vec_len s.counts) };
+}
+
+/// Counts a call, and says whether it is to fail.
+fn is_to_fail(calls: &mut u64, failing: &[u64]) -> bool
+    ensures result { result ≡ is_listed failing.now calls.old }
+    ensures calls { calls.new ≡ one_more calls.old }
+{
+    let call = *calls;
+    *calls = call.saturating_add(1);
+    failing.contains(&call)
 }
 
 /// Raises the count at a place.
@@ -51,14 +72,14 @@ fn fill(counts: &mut Vec<u64>, files: usize) -> Result<(), OutOfMemory>
 }
 
 impl MemInputs {
-    ghost use Rattle.std.specs.Prelude.{Some, None, drop, IsSome};
-    ghost use Rattle.res_io.specs.Files.{place_in, bytes_in, bytes_from, count_at};
+    ghost use Rattle.std.specs.Prelude.{◌≡◌, None, []};
 
     pub fn new(alloc: Global, files: Vec<MemFile>, failing: Vec<u64>, piece: usize) -> MemInputs
         requires { 0 < piece }
-        ensures files { ⟦<MemInputs as Inputs>⟧.files result ≡ Some (bytes_in files.items) }
-        ensures closed { ⟦<MemInputs as Inputs>⟧.current result ≡ None }
-        ensures faults { (name : List ℕ) → ⟦<MemInputs as Inputs>⟧.faults result name ≡ 0 }
+        ensures files { result.shelf.files ≡ files.items }
+        ensures closed { result.shelf.name ≡ None }
+        ensures counts { (result.counts ≡ []) × (result.others ≡ 0) }
+        ensures calls { (result.failing ≡ failing.items) × (result.calls ≡ 0) × (result.piece ≡ piece) }
     {
         MemInputs {
             shelf: Shelf::new(files),
@@ -69,57 +90,70 @@ impl MemInputs {
             calls: 0,
         }
     }
-
-    /// Counts a call, and says whether it is to fail.
-    fn fails(&mut self) -> bool
-        ensures shelf { self.new.shelf ≡ self.old.shelf }
-        ensures counts { self.new.counts ≡ self.old.counts }
-        ensures others { self.new.others ≡ self.old.others }
-        ensures piece { self.new.piece ≡ self.old.piece }
-    {
-        let call = self.calls;
-        self.calls = call.saturating_add(1);
-        self.failing.contains(&call)
-    }
 }
 
 impl Inputs for MemInputs {
-    ghost use Rattle.std.specs.Prelude.{Some, drop};
-    ghost use Rattle.res_io.specs.Files.{place_in, bytes_in, bytes_from, count_at};
+    ghost use Rattle.std.specs.Prelude.{Some};
+    ghost use Rattle.res_io.specs.Files.{bytes_in};
+    ghost use Rattle.res_io.specs.MemInputs.{faults_of, is_due, begin_fails, IsOneCallOn};
 
-    ghost files = { λ s. Some (bytes_in s.shelf.files.items) };
+    ghost files = { λ s. Some (bytes_in s.shelf.files) };
 
     ghost current = { λ s. s.shelf.name };
 
-    ghost left = { λ s. Some (drop s.shelf.at (bytes_from s.shelf.files.items s.shelf.place)) };
+    ghost left = { λ s. Some s.shelf.rest };
 
     ghost taken = { λ s. s.shelf.taken };
 
-    ghost faults = { λ s name. count_at s.counts.items s.others (place_in s.shelf.files.items name) };
+    ghost faults = { faults_of };
 
-    fn begin(&mut self, alloc: Global, name: &str) -> Result<(), BeginFault> {
-        let fails = self.fails();
+    fn begin(&mut self, alloc: Global, name: &str) -> Result<(), BeginFault>
+        ensures ok { OnOk result (self.new.shelf ≡ record { files = self.old.shelf.files; name = Some name.now; rest = unwrap_or (bytes_in self.old.shelf.files name.now) []; taken = 0 }) }
+        ensures err { OnErr result (self.new.shelf ≡ record self.old.shelf { name = None }) }
+        ensures later { NoneFell (faults_of self.old) (faults_of self.new) }
+        ensures failed { IsErrOf result BeginFault.Failed
+            → Rose (faults_of self.old name.now) (faults_of self.new name.now) }
+
+        // Want of memory aside, it fails exactly at a listed call and at an unknown name.
+        ensures fails { IsErrOf result BeginFault.Failed → begin_fails self.old name.now ≡ true }
+        ensures opens { OnOk result (begin_fails self.old name.now ≡ false) }
+        ensures calls { IsOneCallOn self.old self.new }
+    {
+        let fails = is_to_fail(&mut self.calls, self.failing.as_slice());
         self.shelf.close();
-        if fill(&mut self.counts, self.shelf.files.len()).is_err() {
+        if fill(&mut self.counts, self.shelf.len()).is_err() {
             return Err(BeginFault::Memory);
         }
-        let place = place_of(self.shelf.files.as_slice(), name);
-        let Some(i) = place else {
-            raise(&mut self.counts, &mut self.others, place);
-            return Err(BeginFault::Failed);
-        };
-        if fails {
-            raise(&mut self.counts, &mut self.others, place);
-            return Err(BeginFault::Failed);
-        }
-        match self.shelf.open(alloc, name, i) {
-            Ok(()) => Ok(()),
-            Err(OutOfMemory) => Err(BeginFault::Memory),
+        let place = self.shelf.find(name);
+        match place {
+            Some(i) if !fails => match self.shelf.open(alloc, name, i) {
+                Ok(()) => Ok(()),
+                Err(OutOfMemory) => Err(BeginFault::Memory),
+            },
+            _ => {
+                raise(&mut self.counts, &mut self.others, place);
+                Err(BeginFault::Failed)
+            }
         }
     }
 
-    fn take(&mut self, buf: &mut [u8]) -> Result<usize, Failed> {
-        if self.fails() {
+    fn take(&mut self, buf: &mut [u8]) -> Result<usize, Failed>
+        requires is_open { IsSome self.old.shelf.name }
+        requires room { 0 < length buf.old }
+        ensures ok { IfOk result (λ n. self.new.shelf ≡ record self.old.shelf { rest = drop n self.old.shelf.rest; taken = min (self.old.shelf.taken + n) (2 ^ 64 - 1) }) }
+        ensures err { OnErr result (self.new.shelf ≡ self.old.shelf) }
+        ensures bytes { IfOk result (λ n. take n buf.new ≡ take n self.old.shelf.rest) }
+        ensures end { IfOk result (λ n. n ≡ 0 → self.new.shelf.rest ≡ []) }
+        ensures later { NoneFell (faults_of self.old) (faults_of self.new) }
+        ensures failed { OnErr result (IfSome self.old.shelf.name
+            (λ name. Rose (faults_of self.old name) (faults_of self.new name))) }
+
+        // It fails exactly at a listed call, and gives as much as the piece, the buffer and the rest allow.
+        ensures fails { IsErr result ↔ IsTrue (is_due self.old) }
+        ensures count { IfOk result (λ n. n ≡ min (min self.old.piece (length buf.old)) (length self.old.shelf.rest)) }
+        ensures calls { IsOneCallOn self.old self.new }
+    {
+        if is_to_fail(&mut self.calls, self.failing.as_slice()) {
             let place = self.shelf.open_place();
             raise(&mut self.counts, &mut self.others, place);
             return Err(Failed);

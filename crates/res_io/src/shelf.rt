@@ -1,23 +1,35 @@
-ghost use Rattle.std.specs.Prelude.{◌≡◌, ◌≤◌, ◌<◌, ◌+◌, ◌-◌, ◌^◌, min, Option, Some, None, ℕ, List, take, drop, length, vec_len, option_and_then, IfSome, OnOk, OnErr};
+ghost use Rattle.std.specs.Prelude.{◌≡◌, ◌<◌, ◌+◌, ◌-◌, ◌^◌, min, Some, None, List, take, drop, length, option_and_then, IfSome, OnOk, OnErr};
 ghost use Rattle.res_io.specs.Files.{place_in, bytes_from};
 
 use crate::memory::MemFile;
 use res_base::{OutOfMemory, Text};
 use std::alloc::Global;
+use std::marker::Model;
 
 /// Files in memory, of which one may be open: its name, its place, and how far it was read.
 #[derive(Drop)]
 pub struct Shelf {
-    pub files: Vec<MemFile>,
-    pub name: Option<Text>,
-    pub place: usize,
-    pub at: usize,
-    pub taken: u64,
-    ghost within: { at ≤ length (bytes_from files.items place) },
+    files: Vec<MemFile>,
+    name: Option<Text>,
+    place: usize,
+    at: usize,
+    taken: u64,
+}
+
+impl Model for Shelf {
+    ghost use Rattle.std.specs.Prelude.{◌≤◌, length, drop};
+    ghost use Rattle.res_io.specs.Files.{bytes_from};
+    ghost use Rattle.res_io.specs.Shelf.{ShelfState};
+
+    ghost Value = { ShelfState };
+
+    ghost view = { λ s. record { files = s.files.items; name = s.name; rest = drop s.at (bytes_from s.files.items s.place); taken = s.taken } };
+
+    ghost invariant = { λ s. s.at ≤ length (bytes_from s.files.items s.place) };
 }
 
 /// The place of the first file of this name.
-pub fn place_of(files: &[MemFile], name: &str) -> Option<usize>
+fn place_of(files: &[MemFile], name: &str) -> Option<usize>
     ensures place { result ≡ place_in files.now name.now }
     ensures within { IfSome result (λ i. i < length files.now) }
 {
@@ -35,11 +47,8 @@ fn bytes_of(files: &[MemFile], place: usize) -> &[u8]
 }
 
 impl Shelf {
-    ghost use Rattle.std.specs.Prelude.{[], Some, None, option_and_then};
-    ghost use Rattle.res_io.specs.Files.{place_in, bytes_from};
-
     pub fn new(files: Vec<MemFile>) -> Shelf
-        ensures files { result.files ≡ files }
+        ensures files { result.files ≡ files.items }
         ensures closed { result.name ≡ None }
     {
         Shelf {
@@ -51,10 +60,24 @@ impl Shelf {
         }
     }
 
+    pub fn len(&self) -> usize
+        ensures { result ≡ length self.now.files }
+    {
+        self.files.len()
+    }
+
+    /// The place of the first file of this name.
+    pub fn find(&self, name: &str) -> Option<usize>
+        ensures place { result ≡ place_in self.now.files name.now }
+        ensures within { IfSome result (λ i. i < length self.now.files) }
+    {
+        place_of(self.files.as_slice(), name)
+    }
+
     /// The place of the open name.
     pub fn open_place(&self) -> Option<usize>
-        ensures place { result ≡ option_and_then (place_in self.now.files.items) self.now.name }
-        ensures within { IfSome result (λ i. i < vec_len self.now.files) }
+        ensures place { result ≡ option_and_then (place_in self.now.files) self.now.name }
+        ensures within { IfSome result (λ i. i < length self.now.files) }
     {
         match &self.name {
             Some(name) => place_of(self.files.as_slice(), name.as_str()),
@@ -64,18 +87,15 @@ impl Shelf {
 
     /// Closes the file that is open.
     pub fn close(&mut self)
-        ensures files { self.new.files ≡ self.old.files }
-        ensures closed { self.new.name ≡ None }
+        ensures { self.new ≡ record self.old { name = None } }
     {
         self.name = None;
     }
 
-    /// Opens the file at a place.
+    /// Opens the file at a place, and an empty one beyond the files.
     pub fn open(&mut self, alloc: Global, name: &str, place: usize) -> Result<(), OutOfMemory>
-        ensures files { self.new.files ≡ self.old.files }
-        ensures ok { OnOk result ((self.new.name ≡ Some name.now) × (self.new.place ≡ place)
-            × (self.new.at ≡ 0) × (self.new.taken ≡ 0)) }
-        ensures err { OnErr result (self.new.name ≡ None) }
+        ensures ok { OnOk result (self.new ≡ record { files = self.old.files; name = Some name.now; rest = bytes_from self.old.files place; taken = 0 }) }
+        ensures err { OnErr result (self.new ≡ record self.old { name = None }) }
     {
         self.name = None;
         let copy = Text::copy(alloc, name)?;
@@ -88,13 +108,9 @@ impl Shelf {
 
     /// Gives the next bytes, at most so many.
     pub fn give(&mut self, buf: &mut [u8], most: usize) -> usize
-        ensures files { self.new.files ≡ self.old.files }
-        ensures name { self.new.name ≡ self.old.name }
-        ensures place { self.new.place ≡ self.old.place }
-        ensures count { result ≡ min (min most (length buf.old)) (length (drop self.old.at (bytes_from self.old.files.items self.old.place))) }
-        ensures bytes { take result buf.new ≡ take result (drop self.old.at (bytes_from self.old.files.items self.old.place)) }
-        ensures at { self.new.at ≡ self.old.at + result }
-        ensures taken { self.new.taken ≡ min (self.old.taken + result) (2 ^ 64 - 1) }
+        ensures count { result ≡ min (min most (length buf.old)) (length self.old.rest) }
+        ensures bytes { take result buf.new ≡ take result self.old.rest }
+        ensures state { self.new ≡ record self.old { rest = drop result self.old.rest; taken = min (self.old.taken + result) (2 ^ 64 - 1) } }
     {
         let rest = &bytes_of(self.files.as_slice(), self.place)[self.at..];
         let count = most.min(buf.len()).min(rest.len());

@@ -94,7 +94,10 @@ fn files_are_read(rt: HostRuntime) -> Result<(), Fail> {
     let mut inputs = FileInputs::new(&rt);
     let bytes = read_all(alloc, &mut inputs, "input").map_err(|_| "refused")?;
     assert!(rt; bytes.as_slice() == text.as_slice());
-    assert_eq!(rt; read_all(alloc, &mut inputs, "absent").err(), Some(ReadFault::Failed));
+    assert_eq!(rt;
+        read_all(alloc, &mut inputs, "absent").err(),
+        Some(ReadFault::Failed)
+    );
     Ok(())
 }
 
