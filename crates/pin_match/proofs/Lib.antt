@@ -1,0 +1,6 @@
+pub mod CountLemmas
+pub mod ExchangeLemmas
+pub mod HallLemmas
+pub mod PairLemmas
+pub mod SearchLemmas
+pub mod WalkLemmas

@@ -1,0 +1,15 @@
+use Rattle.std.proofs.Common.{◌≡◌, ◌-◌}
+use Rattle.pin_match.specs.Assignments.{size_of}
+use Rattle.pin_match.specs.Sets.{fits_in}
+use Rattle.pin_match.specs.Pairs.{IsMatch, given_in}
+use Rattle.pin_match.proofs.matcher.Matcher.hall.Given as goal
+
+abbrev pub invariant-grow : goal.invariant-grow
+invariant-grow l = record {
+  variables : l.self-inside.variables ≡ l.n;
+  resources : l.self-inside.resources ≡ l.m;
+  matched : IsMatch l.n l.m (fits_in l.sets) l.self-inside.matching;
+}
+
+abbrev pub decreases-grow : goal.decreases-grow
+decreases-grow l = l.n - size_of l.n (given_in l.self-inside.matching)

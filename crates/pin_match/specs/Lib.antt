@@ -1,0 +1,6 @@
+pub mod Assignments
+pub mod Hall
+pub mod Pairs
+pub mod Sets
+pub mod Sizes
+pub mod Walks

@@ -1,0 +1,105 @@
+ghost use Rattle.std.specs.Prelude.{◌≡◌, ◌↔◌, ℕ, ◌+◌, ◌≤◌, Ok, MatchBool, IsNone, IfSome, length};
+ghost use Rattle.pin_match.specs.Sets.{fits_in};
+ghost use Rattle.pin_match.specs.Pairs.{IsMatch, IsClosed, given_in};
+ghost use Rattle.pin_match.specs.Assignments.{size_of, IsFull};
+ghost use Rattle.pin_match.specs.Hall.{IsHall};
+ghost use Rattle.pin_match.specs.Walks.{IsSetOf};
+
+use crate::matching::{Match, give, keep};
+use crate::search::search;
+use crate::walk::Walk;
+use res_base::{OutOfMemory, VarSet};
+use std::marker::Model;
+
+/// Finds which variables cannot all have a resource of their own.
+///
+/// It keeps the assignment of its last call, and goes on from there.
+#[derive(Drop)]
+pub struct Matcher {
+    variables: usize,
+    resources: usize,
+    matching: Match,
+    walk: Walk,
+}
+
+impl Model for Matcher {
+    ghost use Rattle.pin_match.specs.Sizes.{Sizes};
+    ghost use Rattle.pin_match.specs.Pairs.{IsPaired};
+
+    ghost Value = { Sizes };
+
+    ghost view = { λ m. record { variables = m.variables; resources = m.resources } };
+
+    ghost invariant = { λ m. IsPaired m.variables m.resources m.matching };
+}
+
+impl Matcher {
+    /// A matcher for so many variables and resources. It takes no memory.
+    pub fn new(variables: usize, resources: usize) -> Result<Matcher, OutOfMemory>
+        requires variables { variables ≤ 192 }
+        requires resources { resources ≤ 192 }
+        ensures { result ≡ Ok (record { variables = variables; resources = resources }) }
+    {
+        let matching = Match::new();
+        let walk = Walk::new();
+        Ok(Matcher {
+            variables,
+            resources,
+            matching,
+            walk,
+        })
+    }
+
+    /// None where each variable can have a resource of its set and no two the same.
+    ///
+    /// Else the variables that some largest such assignment leaves out: they are more than the
+    /// resources in their sets together.
+    pub fn hall(&mut self, sets: &[VarSet]) -> Option<VarSet>
+        requires { length sets.now ≡ self.old.variables }
+        ensures same { self.new ≡ self.old }
+        ensures none { IsNone result ↔ IsFull self.old.variables self.old.resources (fits_in sets.now) }
+        ensures left_out { IfSome result (IsHall self.old.variables self.old.resources (fits_in sets.now)) }
+    {
+        let n = self.variables;
+        let m = self.resources;
+        keep(&mut self.matching, sets, n, m);
+        'grow: while improve(&mut self.matching, sets, n, m, &mut self.walk) {}
+        if self.walk.len == 0 {
+            return None;
+        }
+        Some(reached_set(&self.walk, n))
+    }
+}
+
+/// Gives one more variable a resource, or finds that none can get one.
+pub(crate) fn improve(a: &mut Match, sets: &[VarSet], n: usize, m: usize, walk: &mut Walk) -> bool
+    requires matched { IsMatch n m (fits_in sets.now) a.old }
+    requires sets { length sets.now ≡ n }
+    ensures matched { IsMatch n m (fits_in sets.now) a.new }
+    ensures improved { MatchBool result (size_of n (given_in a.new) ≡ size_of n (given_in a.old) + 1) (IsClosed n m (fits_in sets.now) a.new walk.new) }
+{
+    let Some((first, free)) = search(a, sets, n, m, walk) else {
+        return false;
+    };
+    let mut v = first;
+    let mut r = free;
+    while let Some(s) = give(a, v, r) {
+        v = walk.from[v as usize];
+        r = s;
+    }
+    true
+}
+
+/// The set of what is reached.
+pub(crate) fn reached_set(walk: &Walk, n: usize) -> VarSet
+    requires { n ≤ 192 }
+    ensures { IsSetOf n walk.now result }
+{
+    let mut out = VarSet::new();
+    for v in 0..n {
+        if walk.reached[v] {
+            out.put(v as u8);
+        }
+    }
+    out
+}

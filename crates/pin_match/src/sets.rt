@@ -1,0 +1,24 @@
+//! Reads of the variables' sets.
+ghost use Rattle.std.specs.Prelude.{◌≡◌, ℕ, ◌<◌, ◌≤◌, length, MatchOption};
+ghost use Rattle.res_base.specs.VarSet.{NoneFrom, IsNext};
+ghost use Rattle.pin_match.specs.Sets.{fits_in};
+
+use res_base::VarSet;
+
+/// The least resource at or above a number in the set of the variable.
+pub(crate) fn next_fit(sets: &[VarSet], v: u8, from: u8) -> Option<u8>
+    requires variable { v < length sets.now }
+    requires from { from ≤ 192 }
+    ensures { MatchOption result (NoneFrom (fits_in sets.now v) from) (λ r. IsNext (fits_in sets.now v) from r) }
+{
+    sets[v as usize].next_from(from)
+}
+
+/// Whether the resource is in the set of the variable.
+pub(crate) fn fits(sets: &[VarSet], v: u8, r: u8) -> bool
+    requires variable { v < length sets.now }
+    requires resource { r < 192 }
+    ensures { result ≡ fits_in sets.now v r }
+{
+    sets[v as usize].has(r)
+}
