@@ -1,5 +1,5 @@
 -- The table that bytes say: each path of the form in its order, or the first fault.
-use Rattle.std.specs.Prelude.{◌≡◌, ℕ, ◌==◌, ◌-◌, ◌+◌, ◌^◌, ◌&&◌, ◌||◌, List, [], ◌∷◌, ◌++◌, length, map, Bool, true, false, not, nat_lt, nat_le, if◌then◌else◌, Option, Some, None, option_and_then, Result, Ok, Err, position, find, codes, decimal, slice_index}
+use Rattle.std.specs.Prelude.{◌≡◌, ℕ, ◌==◌, ◌-◌, ◌+◌, ◌^◌, ◌&&◌, ◌||◌, List, [], ◌∷◌, ◌++◌, length, map, Bool, true, false, not, nat_lt, nat_le, if◌then◌else◌, Option, Some, None, option_and_then, Result, Ok, Err, position, find, codes, decimal, slice_index, slice_get, option_map}
 use Rattle.std.specs.List.{list_any}
 use Rattle.std.specs.Str.{bytes_eq}
 use Rattle.res_model.specs.Steps.{◌>>=◌}
@@ -43,8 +43,9 @@ must fault holds x = if holds then Ok x else Err fault
 
 -- a member that has to be there
 abbrev pub need : {X : Type 0} → (List ℕ → Data → Result X TableFault) → List ℕ → Option Data → Result X TableFault
-need form path None = Err (Missing path)
-need form path (Some d) = form path d
+need form path found = do
+  d ← due (Missing path) found
+  form path d
 
 -- a member that may be absent; null is not absent
 abbrev pub may : {X : Type 0} → (List ℕ → Data → Result X TableFault) → X → List ℕ → Option Data → Result X TableFault
@@ -103,12 +104,17 @@ entries_after entry path before (d ∷ ds) = do
   x ← entry before (below path (decimal (length before))) d
   entries_after entry path (before ++ x ∷ []) ds
 
--- a list of so many entries at least and at most
+-- so many entries at least and at most
+unfoldable pub counted : ℕ → ℕ → List ℕ → Data → Result (List Data) TableFault
+counted least most path d = do
+  ds ← due (BadField path) (entries d)
+  must (BadField path) (nat_le least (length ds) && nat_le (length ds) most) ds
+
+-- a list of so many entries
 unfoldable pub list : {X : Type 0} → ℕ → ℕ → (List X → List ℕ → Data → Result X TableFault) → List ℕ → Data → Result (List X) TableFault
 list least most entry path d = do
-  ds ← due (BadField path) (entries d)
-  counted ← must (BadField path) (nat_le least (length ds) && nat_le (length ds) most) ds
-  entries_after entry path [] counted
+  ds ← counted least most path d
+  entries_after entry path [] ds
 
 -- ---- entries of lists
 
@@ -124,11 +130,13 @@ distinct_text before path d = do
   name ← text path d
   fresh path (list_any (λ x. bytes_eq x name) before) name
 
--- n is above the last of the entries before
+-- n is above the last, where there is one
+abbrev pub is_above_last : Option ℕ → ℕ → Bool
+is_above_last None n = true
+is_above_last (Some m) n = nat_lt m n
+
 abbrev pub is_above : List ℕ → ℕ → Bool
-is_above [] n = true
-is_above (m ∷ []) n = nat_lt m n
-is_above (m ∷ k ∷ ms) n = is_above (k ∷ ms) n
+is_above before n = is_above_last (slice_get before (length before - 1)) n
 
 unfoldable pub above : List ℕ → List ℕ → Data → Result ℕ TableFault
 above before path d = do
@@ -350,9 +358,7 @@ scales vos path d = list (length vos) (length vos) (scale vos) path d
 
 -- n is above the end of the range before
 abbrev pub is_after : List FlashRange → ℕ → Bool
-is_after [] n = true
-is_after (r ∷ []) n = nat_lt r.to n
-is_after (r ∷ s ∷ rs) n = is_after (s ∷ rs) n
+is_after before n = is_above_last (option_map (λ r. r.to) (slice_get before (length before - 1))) n
 
 unfoldable pub flash_from : List FlashRange → List ℕ → Data → Result ℕ TableFault
 flash_from before path d = do
