@@ -14,4 +14,3 @@ pub mod TableFaults
 pub mod UsageFaults
 pub mod Valid
 pub mod Values
-pub mod Words

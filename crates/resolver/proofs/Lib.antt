@@ -1,2 +1,2 @@
-pub mod PlacingLemmas
 pub mod DueLemmas
+pub mod PlacingLemmas

@@ -5,8 +5,6 @@ use Rattle.choice_rank.specs.Least.{IsLeast, NoneLegal}
 use Rattle.res_model.specs.declared.command.Command.{Command}
 use Rattle.res_model.specs.declared.command.Command.TheVariants.{Pins, Tree, Resolve, Check, Case}
 use Rattle.res_model.specs.declared.command.Opts.{Opts}
-use Rattle.res_model.specs.declared.fault.UsageFault.{UsageFault}
-use Rattle.res_model.specs.declared.fault.UsageFault.TheVariants.{Word, Memory}
 use Rattle.res_model.specs.declared.line.Line.{Line}
 use Rattle.res_model.specs.declared.project.Project.{Project}
 use Rattle.res_model.specs.declared.project.Signal.{Signal}
@@ -18,7 +16,7 @@ use Rattle.res_model.specs.Project.{project_of}
 use Rattle.res_model.specs.Table.{tables_of}
 use Rattle.res_model.specs.Values.{pin_values, pin_variables}
 use Rattle.res_model.specs.Words.{command_of}
-use Rattle.resolver.specs.Refusals.{table_refusal, text_refusal, project_refusal}
+use Rattle.resolver.specs.Refusals.{words_refusal, table_refusal, text_refusal, project_refusal}
 
 -- the most bytes of an input
 abbrev pub most_bytes : ℕ
@@ -50,12 +48,13 @@ pub data OfSignals (t : TableParts) (ss : List Signal) : ℕ → List ℕ → Ty
   least : IsNarrow (pin_variables t ss) → (c : List ℕ) → IsLeast (pin_variables t ss) (legal_pins t ss) c → OfSignals t ss 0 (placement_text t ss c)
   none : IsNarrow (pin_variables t ss) → NoneLegal (pin_variables t ss) (legal_pins t ss) → OfSignals t ss 1 (codes "no choice" ++ 10 ∷ [])
 
+-- the project of the lines
+abbrev pub OfLines : TableParts → List Line → Opts → ℕ → List ℕ → Type 0
+OfLines t ioc opts s x = MatchResult (project_of t ioc opts false) (λ p. OfSignals t p.signals s x) (λ f. Says s x 6 (project_refusal f))
+
 -- where the table is taken: the project's text, then the project
 abbrev pub OfTable : TableParts → List ℕ → Opts → ℕ → List ℕ → Type 0
-OfTable t project opts s x =
-    MatchResult (ioc_of project)
-      (λ ioc. MatchResult (project_of t ioc opts false) (λ p. OfSignals t p.signals s x) (λ f. Says s x 6 (project_refusal f)))
-      (λ f. Says s x 6 (text_refusal f))
+OfTable t project opts s x = MatchResult (ioc_of project) (λ ioc. OfLines t ioc opts s x) (λ f. Says s x 6 (text_refusal f))
 
 abbrev pub OfContents : List ℕ → List ℕ → Opts → ℕ → List ℕ → Type 0
 OfContents table project opts s x = MatchResult (tables_of table) (λ t. OfTable t project opts s x) (λ f. Says s x 5 (table_refusal f))
@@ -79,9 +78,5 @@ OfCommand files (Resolve tables project opts workers proof) s x = Says s x 11 (c
 OfCommand files (Check tables project proof opts) s x = Says s x 11 (codes "not built: check")
 OfCommand files (Case number workers) s x = Says s x 11 (codes "not built: case")
 
-abbrev pub usage_text : UsageFault → List ℕ
-usage_text (Word n) = codes "usage: word " ++ decimal n
-usage_text Memory = []
-
 abbrev pub Due : List (List ℕ) → (List ℕ → Option (List ℕ)) → ℕ → List ℕ → Type 0
-Due words files s x = MatchResult (command_of words) (λ c. OfCommand files c s x) (λ f. Says s x 2 (usage_text f))
+Due words files s x = MatchResult (command_of words) (λ c. OfCommand files c s x) (λ f. Says s x 2 (words_refusal f))

@@ -1,13 +1,15 @@
 -- What a call answers for: the text that is due where the inputs tell their files, and the cause of each other answer.
-use Rattle.std.specs.Prelude.{◌≡◌, ◌≢◌, ◌⊎◌, ◌<◌, ℕ, List, [], ◌∷◌, ◌++◌, Bool, true, false, Option, Some, None, Result, Ok, Err, MatchResult, ⊤, codes, take}
+use Rattle.std.specs.Prelude.{◌≡◌, ◌≢◌, ℕ, List, [], ◌∷◌, ◌++◌, Bool, true, false, Option, Some, None, Result, Ok, Err, MatchResult, ⊤, codes, take}
 use Rattle.std.specs.Io.KnownBytes.{Appends}
 use Rattle.res_base.specs.Lists.{Member}
+use Rattle.res_io.specs.Bytes.{IsOverLimit}
 use Rattle.res_io.specs.Causes.{Rose}
 use Rattle.res_model.specs.declared.command.Command.{Command}
 use Rattle.res_model.specs.declared.command.Command.TheVariants.{Pins, Tree, Resolve, Check, Case}
+use Rattle.res_model.specs.declared.command.Opts.{Opts}
 use Rattle.res_model.specs.declared.fault.UsageFault.{UsageFault}
 use Rattle.res_model.specs.Words.{command_of}
-use Rattle.resolver.specs.Due.{Due, OfCommand, Says, most_bytes}
+use Rattle.resolver.specs.Due.{Due, OfCommand, OfFiles}
 
 abbrev pub Files : Type 0
 Files = Option (List ℕ → Option (List ℕ))
@@ -21,22 +23,27 @@ inputs_of (Check tables project proof opts) = tables ∷ project ∷ proof ∷ [
 inputs_of (Case number workers) = []
 
 -- the commands that may start threads
-abbrev pub may_wait : Result Command UsageFault → Bool
-may_wait (Ok (Pins tables project opts)) = false
-may_wait (Ok (Tree tables project opts)) = false
-may_wait (Ok (Resolve tables project opts workers proof)) = true
-may_wait (Ok (Check tables project proof opts)) = false
-may_wait (Ok (Case number workers)) = true
-may_wait (Err fault) = false
+abbrev pub may_wait : Command → Bool
+may_wait (Pins tables project opts) = false
+may_wait (Tree tables project opts) = false
+may_wait (Resolve tables project opts workers proof) = true
+may_wait (Check tables project proof opts) = false
+may_wait (Case number workers) = true
 
--- a name is an input of the command that the words ask for
-abbrev pub IsInputOf : List (List ℕ) → List ℕ → Type 0
-IsInputOf words name = MatchResult (command_of words) (λ c. Member name (inputs_of c)) (λ f. ⊥)
+-- words that read as such a command
+abbrev pub waits : Result Command UsageFault → Bool
+waits (Ok c) = may_wait c
+waits (Err fault) = false
 
 -- for a command, where the inputs tell their files
 abbrev pub TellsFor : Command → Files → ℕ → List ℕ → Type 0
 TellsFor c None s x = ⊤
 TellsFor c (Some files) s x = OfCommand files c s x
+
+-- for two inputs, where their files are told
+abbrev pub TellsFiles : List ℕ → List ℕ → Files → Opts → ℕ → List ℕ → Type 0
+TellsFiles tables project None opts s x = ⊤
+TellsFiles tables project (Some files) opts s x = OfFiles tables project (files tables) (files project) opts s x
 
 -- for words
 abbrev pub TellsDue : List (List ℕ) → Files → ℕ → List ℕ → Type 0
@@ -48,18 +55,28 @@ pub record FailedAt (before now : List ℕ → ℕ) (text name : List ℕ) : Typ
   pub rose : Rose (before name) (now name)
   pub says : text ≡ (codes "read failed: " ++ name) ++ 10 ∷ []
 
--- an input of the command failed
+-- one of these inputs failed
+abbrev pub ReadFaultAt : List (List ℕ) → (List ℕ → ℕ) → (List ℕ → ℕ) → List ℕ → Type 0
+ReadFaultAt names before now text = (name : List ℕ) × Member name names × FailedAt before now text name
+
+-- one of these inputs is open at the end, more bytes of it were taken than an input may have, and the text says so
+abbrev pub TooLongAt : List (List ℕ) → Option (List ℕ) → ℕ → List ℕ → Type 0
+TooLongAt names current taken text = (name : List ℕ) × Member name names × IsOverLimit name current taken × (text ≡ (codes "too long: " ++ name) ++ 10 ∷ [])
+
+-- where one of these inputs is, the status says so
+abbrev pub IsToldAt : List (List ℕ) → Option (List ℕ) → ℕ → ℕ → Type 0
+IsToldAt names current taken status = (name : List ℕ) → Member name names → IsOverLimit name current taken → status ≡ 4
+
+-- the same of the inputs of the command that the words ask for
 abbrev pub IsReadFault : List (List ℕ) → (List ℕ → ℕ) → (List ℕ → ℕ) → List ℕ → Type 0
-IsReadFault words before now text = (name : List ℕ) × IsInputOf words name × FailedAt before now text name
+IsReadFault words before now text = MatchResult (command_of words) (λ c. ReadFaultAt (inputs_of c) before now text) (λ f. ⊥)
 
--- this name is open at the end, and more bytes of it were taken than an input may have
-pub record IsTakenTooFar (current : Option (List ℕ)) (taken : ℕ) (name : List ℕ) : Type 0 where
-  pub is_open : current ≡ Some name
-  pub far : most_bytes < taken
-
--- an input of the command is too long, and the text says so
 abbrev pub IsTooLong : List (List ℕ) → Option (List ℕ) → ℕ → List ℕ → Type 0
-IsTooLong words current taken text = (name : List ℕ) × IsInputOf words name × IsTakenTooFar current taken name × (text ≡ (codes "too long: " ++ name) ++ 10 ∷ [])
+IsTooLong words current taken text = MatchResult (command_of words) (λ c. TooLongAt (inputs_of c) current taken text) (λ f. ⊥)
+
+-- an input that is too long is told of, unless the command is not served yet
+abbrev pub IsToldIfServed : List (List ℕ) → Option (List ℕ) → ℕ → ℕ → Type 0
+IsToldIfServed words current taken status = status ≢ 11 → MatchResult (command_of words) (λ c. IsToldAt (inputs_of c) current taken status) (λ f. ⊤)
 
 -- the text that was written is the one that is due with the status
 abbrev pub Settled : List (List ℕ) → Files → Option (List ℕ) → Option (List ℕ) → ℕ → Type 0
@@ -73,16 +90,18 @@ WroteReadFault words before now old new = (text : List ℕ) × Appends old new t
 abbrev pub WroteTooLong : List (List ℕ) → Option (List ℕ) → ℕ → Option (List ℕ) → Option (List ℕ) → Type 0
 WroteTooLong words current taken old new = (text : List ℕ) × Appends old new text × IsTooLong words current taken text
 
--- an input that is too long is told of, unless the write failed, memory ran out, or the command is not served yet
-abbrev pub IsToldIfTooLong : List (List ℕ) → Option (List ℕ) → ℕ → ℕ → Type 0
-IsToldIfTooLong words current taken status =
-    (name : List ℕ) → IsInputOf words name → IsTakenTooFar current taken name → status ≢ 8 → status ≢ 9 → status ≢ 11 → status ≡ 4
-
 -- a front of the text was written that is due, or that says that an input failed
 abbrev pub WroteFront : List (List ℕ) → Files → (List ℕ → ℕ) → (List ℕ → ℕ) → Option (List ℕ) → Option (List ℕ) → Type 0
 WroteFront words files before now old new =
     (status : ℕ) × (text : List ℕ) × (n : ℕ) × Appends old new (take n text)
     × (status ≢ 3 → TellsDue words files status text) × (status ≡ 3 → IsReadFault words before now text)
+
+-- a status that bytes have: no failed read or write, no want of memory and no length
+pub record IsOfContents (s : ℕ) : Type 0 where
+  pub no_read_fault : s ≢ 3
+  pub no_length : s ≢ 4
+  pub no_write_fault : s ≢ 8
+  pub no_memory : s ≢ 9
 
 -- a status that no failed write and no want of memory answers
 abbrev pub IsOwn : ℕ → Type 0

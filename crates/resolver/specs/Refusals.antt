@@ -1,11 +1,17 @@
--- What is said of a refused table or project.
+-- What is said of words, a table or a project that is refused.
 use Rattle.std.specs.Prelude.{ℕ, List, [], ◌++◌, codes, decimal}
+use Rattle.res_model.specs.declared.fault.UsageFault.{UsageFault}
+use Rattle.res_model.specs.declared.fault.UsageFault.TheVariants as words
 use Rattle.res_model.specs.declared.fault.TableFault.{TableFault}
 use Rattle.res_model.specs.declared.fault.TableFault.TheVariants as tables
 use Rattle.res_model.specs.declared.fault.IocFault.{IocFault}
 use Rattle.res_model.specs.declared.fault.IocFault.TheVariants as text
 use Rattle.res_model.specs.declared.fault.ProjectFault.{ProjectFault}
 use Rattle.res_model.specs.declared.fault.ProjectFault.TheVariants as project
+
+abbrev pub words_refusal : UsageFault → List ℕ
+words_refusal (words.Word number) = codes "usage: word " ++ decimal number
+words_refusal words.Memory = []
 
 abbrev pub table_refusal : TableFault → List ℕ
 table_refusal tables.NotJson = codes "tables: not json"

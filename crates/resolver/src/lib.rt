@@ -4,4 +4,8 @@
 mod answer;
 mod pin_text;
 mod placing;
+mod reading;
 mod refusals;
+mod top;
+
+pub use top::{run, run_plain};

@@ -1,5 +1,5 @@
 //! The least placement of signals, by the plain walk.
-ghost use Rattle.std.specs.Prelude.{◌≡◌, ◌≢◌, ◌<◌, ◌≤◌, ◌++◌, ◌%◌, ℕ, List, [], ◌∷◌, Some, length, map, slice_get, IfOk, IfErr, OnOk, vec_len};
+ghost use Rattle.std.specs.Prelude.{◌≡◌, ◌≢◌, ◌<◌, ◌≤◌, ◌++◌, ◌%◌, ℕ, List, [], ◌∷◌, codes, decimal, Some, length, map, slice_get, IfOk, IfErr, OnOk, vec_len};
 ghost use Rattle.std.specs.Option.{option_to_list};
 ghost use Rattle.res_base.specs.Lists.{Each};
 ghost use Rattle.choice_rank.specs.Choices.{IsChoice, IsNarrow, IsFirstWide, HasPositions, HasSmallSizes, choices_of, cost_of, index_of, rank_of};
@@ -10,8 +10,8 @@ ghost use Rattle.res_model.specs.PinText.{rank_line, pins_text};
 ghost use Rattle.res_model.specs.Valid.{IsValid};
 ghost use Rattle.res_model.specs.Values.{values_of, costs_of, pin_values, pin_variables, variable_of};
 ghost use Rattle.pin_rules.specs.Sizes.{IsSized};
-ghost use Rattle.resolver.specs.Due.{OfSignals, legal_pins, placement_text, most_walked};
-ghost use Rattle.resolver.specs.Owed.{IsOwn};
+ghost use Rattle.resolver.specs.Due.{Says, OfSignals, legal_pins, placement_text, most_walked};
+ghost use Rattle.resolver.specs.Owed.{IsOfContents};
 
 use crate::answer::{Answer, counts, says};
 use crate::pin_text::{put_pins_text, put_rank_line};
@@ -157,7 +157,7 @@ fn found(
     requires shape { shape.now ≡ pin_variables placing.now.tables.now signals.now }
     requires narrow { IsNarrow shape.now }
     requires least { IsAnswer shape.now (legal_pins placing.now.tables.now signals.now) (Some rank) }
-    ensures { IfOk result (λ a. OfSignals placing.now.tables.now signals.now a.status a.text.items × (a.status ≢ 3) × IsOwn a.status) }
+    ensures { IfOk result (λ a. OfSignals placing.now.tables.now signals.now a.status a.text.items × IsOfContents a.status) }
 {
     let at = choice_of(alloc, shape, rank)?;
     let values = placing.values.as_slice();
@@ -175,7 +175,7 @@ fn walked(
     requires values { placing.now.values ≡ pin_values placing.now.tables.now signals.now }
     requires shape { shape.now ≡ pin_variables placing.now.tables.now signals.now }
     requires narrow { IsNarrow shape.now }
-    ensures { IfOk result (λ a. OfSignals placing.now.tables.now signals.now a.status a.text.items × (a.status ≢ 3) × IsOwn a.status) }
+    ensures { IfOk result (λ a. OfSignals placing.now.tables.now signals.now a.status a.text.items × IsOfContents a.status) }
 {
     if shape.choices() > MOST_WALKED {
         return says(alloc, 11, "not built: choices");
@@ -186,11 +186,17 @@ fn walked(
     }
 }
 
+fn too_wide(alloc: Global, variable: u16) -> Result<Answer, OutOfMemory>
+    ensures { IfOk result (λ a. Says a.status a.text.items 7 (codes "too wide: variable " ++ decimal variable)) }
+{
+    counts(alloc, 7, "too wide: variable ", u64::from(variable))
+}
+
 /// The least placement of signals, or why there is none.
 pub(crate) fn place(alloc: Global, t: &Tables, signals: &[Signal]) -> Result<Answer, OutOfMemory>
     requires { ArePlaceable t.now signals.now }
     ensures signals { IfOk result (λ a. OfSignals t.now signals.now a.status a.text.items) }
-    ensures status { IfOk result (λ a. (a.status ≢ 3) × IsOwn a.status) }
+    ensures status { IfOk result (λ a. IsOfContents a.status) }
 {
     let values = values_of_all(alloc, t, signals)?;
     are_sized(t, signals);
@@ -203,9 +209,7 @@ pub(crate) fn place(alloc: Global, t: &Tables, signals: &[Signal]) -> Result<Ans
             };
             walked(alloc, &placing, signals, &shape)
         }
-        Err(ShapeFault::TooWide { variable }) => {
-            counts(alloc, 7, "too wide: variable ", u64::from(variable))
-        }
+        Err(ShapeFault::TooWide { variable }) => too_wide(alloc, variable),
         Err(ShapeFault::Memory) => Err(OutOfMemory),
     }
 }

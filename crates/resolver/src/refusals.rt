@@ -1,18 +1,27 @@
 //! The line and the status of each refusal.
 ghost use Rattle.std.specs.Prelude.{◌≡◌, ◌≢◌, ◌++◌, codes, decimal, IfOk, IsErr};
 ghost use Rattle.resolver.specs.Due.{Says};
-ghost use Rattle.resolver.specs.Refusals.{table_refusal, text_refusal, project_refusal};
+ghost use Rattle.resolver.specs.Refusals.{words_refusal, table_refusal, text_refusal, project_refusal};
 
 use crate::answer::{Answer, counts, names, says};
 use res_base::OutOfMemory;
 use res_io::ReadFault;
-use res_model::{IocFault, ProjectFault, TableFault};
+use res_model::{IocFault, ProjectFault, TableFault, UsageFault};
 use std::alloc::Global;
+
+/// What is said of words that have no reading.
+pub(crate) fn refused_words(alloc: Global, fault: UsageFault) -> Result<Answer, OutOfMemory>
+    ensures { IfOk result (λ a. (fault ≢ UsageFault.Memory) × Says a.status a.text.items 2 (words_refusal fault)) }
+{
+    match fault {
+        UsageFault::Word { word } => counts(alloc, 2, "usage: word ", word as u64),
+        UsageFault::Memory => Err(OutOfMemory),
+    }
+}
 
 /// What is said of a refused table.
 pub(crate) fn refused_table(alloc: Global, fault: TableFault) -> Result<Answer, OutOfMemory>
-    ensures says { fault ≢ TableFault.Memory → IfOk result (λ a. Says a.status a.text.items 5 (table_refusal fault)) }
-    ensures memory { fault ≡ TableFault.Memory → IsErr result }
+    ensures { IfOk result (λ a. (fault ≢ TableFault.Memory) × Says a.status a.text.items 5 (table_refusal fault)) }
 {
     match fault {
         TableFault::NotJson => says(alloc, 5, "tables: not json"),
@@ -26,8 +35,7 @@ pub(crate) fn refused_table(alloc: Global, fault: TableFault) -> Result<Answer, 
 
 /// What is said of a refused text of a project.
 pub(crate) fn refused_text(alloc: Global, fault: IocFault) -> Result<Answer, OutOfMemory>
-    ensures says { fault ≢ IocFault.Memory → IfOk result (λ a. Says a.status a.text.items 6 (text_refusal fault)) }
-    ensures memory { fault ≡ IocFault.Memory → IsErr result }
+    ensures { IfOk result (λ a. (fault ≢ IocFault.Memory) × Says a.status a.text.items 6 (text_refusal fault)) }
 {
     match fault {
         IocFault::LongLine { line } => {
@@ -44,8 +52,7 @@ pub(crate) fn refused_text(alloc: Global, fault: IocFault) -> Result<Answer, Out
 
 /// What is said of a refused project.
 pub(crate) fn refused_project(alloc: Global, fault: ProjectFault) -> Result<Answer, OutOfMemory>
-    ensures says { fault ≢ ProjectFault.Memory → IfOk result (λ a. Says a.status a.text.items 6 (project_refusal fault)) }
-    ensures memory { fault ≡ ProjectFault.Memory → IsErr result }
+    ensures { IfOk result (λ a. (fault ≢ ProjectFault.Memory) × Says a.status a.text.items 6 (project_refusal fault)) }
 {
     let (text, number) = match fault {
         ProjectFault::WrongPart { line } => ("project: part line ", line),

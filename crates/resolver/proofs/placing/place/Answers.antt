@@ -12,4 +12,4 @@ returns-in-Err-TooWide-clause-signals c =
     let fault : IsShapeFault vs c.in-Err-TooWide.field-0 = c.in-Err-TooWide.ensures.fault in
     let wide : IsShapeFault vs (TooWide c.in-Err-TooWide.variable) = subst (λ (f : ShapeFault). IsShapeFault vs f) c.in-Err-TooWide.field-0-is fault in
     let first = wide.1 in
-    IfOk-weaker c.counts.result _ _ (λ a s. wide_due c.args.t.now c.args.signals.now c.in_ok-variables.variables.items c.in_ok-variables.ensures c.in-Err-TooWide.variable first a.status a.text.items s) c.counts.ensures
+    IfOk-weaker c.too_wide.result _ _ (λ a s. wide_due c.args.t.now c.args.signals.now c.in_ok-variables.variables.items c.in_ok-variables.ensures c.in-Err-TooWide.variable first a.status a.text.items s) c.too_wide.ensures
