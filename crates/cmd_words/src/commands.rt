@@ -1,6 +1,6 @@
-ghost use Rattle.std.specs.Prelude.{◌≡◌, map, string_bytes};
+ghost use Rattle.std.specs.Prelude.{◌≡◌, map, string_bytes, IfOk};
 ghost use Rattle.res_model.specs.UsageFaults.{Gives};
-ghost use Rattle.res_model.specs.Words.{pins_takes, tree_takes, resolve_takes, check_takes, case_takes, pins_of, tree_of, resolve_of, check_of, case_of, command_of};
+ghost use Rattle.res_model.specs.Words.{pins_takes, tree_takes, resolve_takes, check_takes, case_takes, pins_of, tree_of, resolve_of, check_of, case_of, command_of, IsWithinLimits};
 
 use crate::options::{opts_of, read_options, worker_count};
 use crate::values::number_of;
@@ -35,7 +35,8 @@ const RESOLVE: [Flag; 8] = [
 const CASE: [Flag; 1] = [Flag::Workers];
 
 fn read_pins(alloc: Global, words: &[String]) -> Result<Command, UsageFault>
-    ensures { Gives (λ c. c) result (pins_of (map string_bytes words.now)) }
+    ensures gives { Gives (λ c. c) result (pins_of (map string_bytes words.now)) }
+    ensures limits { IfOk result IsWithinLimits }
 {
     let [tables, project, words @ ..] = words else {
         return Err(UsageFault::Word {
@@ -51,7 +52,8 @@ fn read_pins(alloc: Global, words: &[String]) -> Result<Command, UsageFault>
 }
 
 fn read_tree(alloc: Global, words: &[String]) -> Result<Command, UsageFault>
-    ensures { Gives (λ c. c) result (tree_of (map string_bytes words.now)) }
+    ensures gives { Gives (λ c. c) result (tree_of (map string_bytes words.now)) }
+    ensures limits { IfOk result IsWithinLimits }
 {
     let [tables, project, words @ ..] = words else {
         return Err(UsageFault::Word {
@@ -67,7 +69,8 @@ fn read_tree(alloc: Global, words: &[String]) -> Result<Command, UsageFault>
 }
 
 fn read_resolve(alloc: Global, words: &[String]) -> Result<Command, UsageFault>
-    ensures { Gives (λ c. c) result (resolve_of (map string_bytes words.now)) }
+    ensures gives { Gives (λ c. c) result (resolve_of (map string_bytes words.now)) }
+    ensures limits { IfOk result IsWithinLimits }
 {
     let [tables, project, words @ ..] = words else {
         return Err(UsageFault::Word {
@@ -87,7 +90,8 @@ fn read_resolve(alloc: Global, words: &[String]) -> Result<Command, UsageFault>
 }
 
 fn read_check(alloc: Global, words: &[String]) -> Result<Command, UsageFault>
-    ensures { Gives (λ c. c) result (check_of (map string_bytes words.now)) }
+    ensures gives { Gives (λ c. c) result (check_of (map string_bytes words.now)) }
+    ensures limits { IfOk result IsWithinLimits }
 {
     let [tables, project, proof, words @ ..] = words else {
         return Err(UsageFault::Word {
@@ -104,7 +108,8 @@ fn read_check(alloc: Global, words: &[String]) -> Result<Command, UsageFault>
 }
 
 fn read_case(alloc: Global, words: &[String]) -> Result<Command, UsageFault>
-    ensures { Gives (λ c. c) result (case_of (map string_bytes words.now)) }
+    ensures gives { Gives (λ c. c) result (case_of (map string_bytes words.now)) }
+    ensures limits { IfOk result IsWithinLimits }
 {
     let [number, words @ ..] = words else {
         return Err(UsageFault::Word { word: 2 });
@@ -122,7 +127,8 @@ fn read_case(alloc: Global, words: &[String]) -> Result<Command, UsageFault>
 /// The command that words ask for, or the first word, from 1, that the grammar does not allow there.
 #[tactic(auto, unfolding(res_model::specs::Words::command_of))]
 pub fn read_words(alloc: Global, words: &[String]) -> Result<Command, UsageFault>
-    ensures { Gives (λ c. c) result (command_of (map string_bytes words.now)) }
+    ensures gives { Gives (λ c. c) result (command_of (map string_bytes words.now)) }
+    ensures limits { IfOk result IsWithinLimits }
 {
     let [command, words @ ..] = words else {
         return Err(UsageFault::Word { word: 1 });

@@ -1,6 +1,6 @@
-ghost use Rattle.std.specs.Prelude.{◌≡◌, ◌+◌, ◌^◌, ◌<◌, length, map, string_bytes};
+ghost use Rattle.std.specs.Prelude.{◌≡◌, ◌+◌, ◌^◌, ◌<◌, length, map, string_bytes, OnOk, IfOk};
 ghost use Rattle.res_model.specs.UsageFaults.{Gives};
-ghost use Rattle.res_model.specs.Words.{allowed, word_read, options, opts_of, worker_count};
+ghost use Rattle.res_model.specs.Words.{allowed, word_read, options, opts_of, worker_count, IsLimited, IsWorkers, HasLimits};
 
 use crate::flags::{flag_named, is_given};
 use crate::values::put_value;
@@ -17,7 +17,8 @@ fn read_word(
     text: &str,
     word: usize,
 ) -> Result<Option<Flag>, UsageFault>
-    ensures { Gives (λ next. record { given = given.new; due = next }) result (allowed word (word_read takes.now given.old due text.now)) }
+    ensures gives { Gives (λ next. record { given = given.new; due = next }) result (allowed word (word_read takes.now given.old due text.now)) }
+    ensures limited { OnOk result (IsLimited given.old → IsLimited given.new) }
 {
     if let Some(flag) = due {
         put_value(alloc, given, flag, text, word)?;
@@ -46,7 +47,8 @@ pub fn read_options(
     first: usize,
 ) -> Result<Given, UsageFault>
     requires { first < 2 ^ 32 }
-    ensures { Gives (λ given. given) result (options takes.now first (map string_bytes words.now)) }
+    ensures gives { Gives (λ given. given) result (options takes.now first (map string_bytes words.now)) }
+    ensures limited { IfOk result IsLimited }
 {
     let mut given = Given {
         vdd: None,
@@ -72,7 +74,8 @@ pub fn read_options(
 
 /// The options, with defaults for those that were not given: 3300 mV, and all is free.
 pub fn opts_of(given: Given) -> Opts
-    ensures { result ≡ opts_of given }
+    ensures same { result ≡ opts_of given }
+    ensures limits { IsLimited given → HasLimits result }
 {
     Opts {
         vdd: given.vdd.unwrap_or(3300),
@@ -86,7 +89,8 @@ pub fn opts_of(given: Given) -> Opts
 
 /// The number of workers, of which one is the default.
 pub fn worker_count(given: &Given) -> u32
-    ensures { result ≡ worker_count given.now }
+    ensures same { result ≡ worker_count given.now }
+    ensures limits { IsLimited given.now → IsWorkers result }
 {
     given.workers.unwrap_or(1)
 }

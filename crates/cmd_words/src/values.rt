@@ -1,7 +1,7 @@
-ghost use Rattle.std.specs.Prelude.{◌≡◌, ◌≤◌, IfSome};
+ghost use Rattle.std.specs.Prelude.{◌≡◌, ◌≤◌, IfSome, OnOk};
 ghost use Rattle.res_model.specs.Numbers.{number_of, number_up_to};
 ghost use Rattle.res_model.specs.UsageFaults.{Gives};
-ghost use Rattle.res_model.specs.Words.{allowed, free_of, workers_of, with_value};
+ghost use Rattle.res_model.specs.Words.{allowed, free_of, workers_of, with_value, IsWorkers, IsLimited};
 
 use res_base::{Text, parse_dec};
 use res_model::{Flag, Free, Given, UsageFault};
@@ -36,7 +36,7 @@ fn number_up_to(most: u64, word: &str) -> Option<u64>
 /// A number of workers.
 fn workers_of(word: &str) -> Option<u64>
     ensures number { result ≡ workers_of word.now }
-    ensures within { IfSome result (λ n. n ≤ 16) }
+    ensures within { IfSome result IsWorkers }
 {
     let number = number_up_to(MOST_WORKERS, word)?;
     if 1 <= number { Some(number) } else { None }
@@ -73,7 +73,8 @@ pub fn put_value(
     value: &str,
     word: usize,
 ) -> Result<(), UsageFault>
-    ensures { Gives (λ _. given.new) result (allowed word (with_value flag value.now given.old)) }
+    ensures gives { Gives (λ _. given.new) result (allowed word (with_value flag value.now given.old)) }
+    ensures limited { OnOk result (IsLimited given.old → IsLimited given.new) }
 {
     match flag {
         Flag::Vdd => given.vdd = Some(allowed(number_up_to(MOST_VDD, value), word)? as u32),

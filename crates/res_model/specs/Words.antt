@@ -8,7 +8,7 @@
 --
 -- OPTIONS are --vdd MV, --need SIGNAL, --hclk HZ, --pclk1 HZ, --pclk2 HZ and --free pins|clock|all|none. Options stand
 -- after the names, in any order, and each at most once but --need. T, P, PROOF and SIGNAL are any words.
-use Rattle.std.specs.Prelude.{ℕ, ◌+◌, ◌&&◌, Bool, true, false, List, [], ◌∷◌, ◌++◌, length, find, codes, nat_le, if◌then◌else◌, Option, Some, None, option_and_then, option_map, is_some, unwrap_or, Result, Ok, Err}
+use Rattle.std.specs.Prelude.{ℕ, ◌≤◌, IfSome, ◌+◌, ◌&&◌, Bool, true, false, List, [], ◌∷◌, ◌++◌, length, find, codes, nat_le, if◌then◌else◌, Option, Some, None, option_and_then, option_map, is_some, unwrap_or, Result, Ok, Err}
 use Rattle.std.specs.Str.{bytes_eq}
 use Rattle.res_model.specs.Numbers.{number_of, number_up_to}
 use Rattle.res_model.specs.Steps.{◌>>=◌}
@@ -190,3 +190,30 @@ command_of (command ∷ words) =
     else (if bytes_eq command (codes "check") then check_of words
     else (if bytes_eq command (codes "case") then case_of words
     else Err (Word 1)))))
+
+-- The numbers that the grammar allows: what options gave, and what a command has.
+abbrev pub IsHertz : Option ℕ → Type 0
+IsHertz wish = IfSome wish (λ n. n ≤ 4294967295)
+
+abbrev pub IsWorkers : ℕ → Type 0
+IsWorkers n = (1 ≤ n) × (n ≤ 16)
+
+pub record IsLimited (g : Given) : Type 0 where
+  pub vdd : IfSome g.vdd (λ n. n ≤ 10000)
+  pub hclk : IsHertz g.hclk
+  pub pclk1 : IsHertz g.pclk1
+  pub pclk2 : IsHertz g.pclk2
+  pub workers : IfSome g.workers IsWorkers
+
+pub record HasLimits (opts : Opts) : Type 0 where
+  pub vdd : opts.vdd ≤ 10000
+  pub hclk : IsHertz opts.hclk
+  pub pclk1 : IsHertz opts.pclk1
+  pub pclk2 : IsHertz opts.pclk2
+
+abbrev pub IsWithinLimits : Command → Type 0
+IsWithinLimits (Pins t p opts) = HasLimits opts
+IsWithinLimits (Tree t p opts) = HasLimits opts
+IsWithinLimits (Resolve t p opts workers proof) = HasLimits opts × IsWorkers workers
+IsWithinLimits (Check t p proof opts) = HasLimits opts
+IsWithinLimits (Case number workers) = IsWorkers workers
