@@ -6,6 +6,7 @@ pub mod PinText
 pub mod Placeable
 pub mod Placement
 pub mod Project
+pub mod Numbers
 pub mod ProjectFaults
 pub mod Signals
 pub mod Steps
@@ -14,3 +15,4 @@ pub mod TableFaults
 pub mod UsageFaults
 pub mod Valid
 pub mod Values
+pub mod Words

@@ -1,4 +1,4 @@
-use Rattle.std.proofs.Common.{◌≡◌, ◌≤◌, ◌+◌, ◌-◌, length, take, drop, arith, length-drop, take-add}
+use Rattle.std.proofs.Common.{◌≡◌, ◌-◌, length, take, drop, arith, length-drop, take-add}
 use Rattle.std.proofs.lemmas.List.{take_all}
 use Rattle.res_io.proofs.Steps.{appends_more}
 use Rattle.res_io.proofs.sink.write_all.Goals as goal
