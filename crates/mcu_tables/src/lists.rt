@@ -15,7 +15,9 @@ use std::alloc::Global;
 /// The entries of a list of so many.
 #[tactic(auto, unfolding(res_model::specs::Table::counted))]
 pub fn counted_at(at: Spot, value: &Value, least: usize, most: usize) -> Result<&Vec<Value>, Flaw>
-    ensures { Reads (λ v. map view v.now.items) result (counted least most (path_of at) (view value.now)) }
+    ensures reads { Reads (λ v. map view v.now.items) result (counted least most (path_of at) (view value.now)) }
+    ensures long { IfOk result (λ v. least ≤ length v.now.items) }
+    ensures short { IfOk result (λ v. length v.now.items ≤ most) }
 {
     let Some(values) = entries_of(value) else {
         return Err(Flaw::BadField(Place::Member(at)));

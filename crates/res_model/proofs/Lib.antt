@@ -1,1 +1,7 @@
 pub mod NumberLaws
+pub mod ClockLaws
+pub mod FlashLaws
+pub mod PinLaws
+pub mod SignalLaws
+pub mod TableLaws
+pub mod TableValid

@@ -1,5 +1,5 @@
 -- The table that bytes say: each path of the form in its order, or the first fault.
-use Rattle.std.specs.Prelude.{◌≡◌, ℕ, ◌==◌, ◌-◌, ◌+◌, ◌^◌, ◌&&◌, ◌||◌, List, [], ◌∷◌, ◌++◌, length, map, Bool, true, false, not, nat_lt, nat_le, if◌then◌else◌, Option, Some, None, option_and_then, Result, Ok, Err, position, find, codes, decimal, slice_index, slice_get, option_map}
+use Rattle.std.specs.Prelude.{◌≡◌, ℕ, ◌==◌, ◌-◌, ◌+◌, ◌^◌, ◌&&◌, ◌||◌, List, [], ◌∷◌, ◌++◌, length, map, Bool, true, false, not, nat_lt, nat_le, if◌then◌else◌, Option, Some, None, option_and_then, Result, Ok, Err, position, find, codes, decimal, slice_index, slice_get, option_map, ⊤}
 use Rattle.std.specs.List.{list_any}
 use Rattle.std.specs.Str.{bytes_eq}
 use Rattle.res_model.specs.Steps.{◌>>=◌}
@@ -77,6 +77,11 @@ flag path d = due (BadField path) (as_bool d)
 
 unfoldable pub object : List ℕ → Data → Result Data TableFault
 object path d = must (BadField path) (is_object d) d
+
+-- an object, where it is there
+unfoldable pub object_if_there : List ℕ → Option Data → Result ⊤ TableFault
+object_if_there path None = Ok tt
+object_if_there path (Some d) = must (BadField path) (is_object d) tt
 
 unfoldable pub number_within : ℕ → ℕ → List ℕ → Data → Result ℕ TableFault
 number_within low high path d = do
@@ -397,22 +402,40 @@ source_form path d = due (BadField path) (option_and_then source_of (as_str d))
 unfoldable pub pll_source_form : List ℕ → Data → Result ℕ TableFault
 pll_source_form path d = due (BadField path) (option_and_then pll_source_of (as_str d))
 
--- the defaults of the clock variables, each in its domain, and the HSE value in hertz
-unfoldable pub defaults : Domains → Data → Result (List ℕ × ℕ) TableFault
-defaults c d = do
-  there ← may object d (below [] (codes "defaults")) (get (codes "defaults") d)
+-- src and psrc
+unfoldable pub default_sources : Data → Result (ℕ × ℕ) TableFault
+default_sources d = do
   src ← nested source_form (codes "defaults") (codes "src") d
   psrc ← nested pll_source_form (codes "defaults") (codes "psrc") d
+  Ok (src, psrc)
+
+-- hpre, p, m, n and q, each in its domain
+unfoldable pub default_factors : Domains → Data → Result (ℕ × ℕ × ℕ × ℕ × ℕ) TableFault
+default_factors c d = do
   hpre ← nested (number_among c.hpre) (codes "defaults") (codes "hpre") d
   p ← nested (number_among c.p) (codes "defaults") (codes "p") d
   m ← nested (number_within c.m.0 c.m.1) (codes "defaults") (codes "m") d
   n ← nested (number_within c.n.0 c.n.1) (codes "defaults") (codes "n") d
   q ← nested (number_within c.q.0 c.q.1) (codes "defaults") (codes "q") d
+  Ok (hpre, p, m, n, q)
+
+-- ppre1, ppre2 and vos, each in its domain
+unfoldable pub default_buses : Domains → Data → Result (ℕ × ℕ × ℕ) TableFault
+default_buses c d = do
   ppre1 ← nested (number_among c.ppre1) (codes "defaults") (codes "ppre1") d
   ppre2 ← nested (number_among c.ppre2) (codes "defaults") (codes "ppre2") d
   vos ← nested (number_among c.vos) (codes "defaults") (codes "vos") d
+  Ok (ppre1, ppre2, vos)
+
+-- the defaults of the clock variables in their order, and the HSE value in hertz
+unfoldable pub defaults : Domains → Data → Result (List ℕ × ℕ) TableFault
+defaults c d = do
+  there ← object_if_there (below [] (codes "defaults")) (get (codes "defaults") d)
+  s ← default_sources d
+  f ← default_factors c d
+  b ← default_buses c d
   hse ← nested (number_within 0 4294967295) (codes "defaults") (codes "hse") d
-  Ok (src ∷ psrc ∷ hpre ∷ p ∷ m ∷ n ∷ q ∷ ppre1 ∷ ppre2 ∷ vos ∷ [], hse)
+  Ok (s.0 ∷ s.1 ∷ f.0 ∷ f.1 ∷ f.2 ∷ f.3 ∷ f.4 ∷ b.0 ∷ b.1 ∷ b.2 ∷ [], hse)
 
 -- ---- the state after reset
 
