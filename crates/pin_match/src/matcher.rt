@@ -5,7 +5,7 @@ ghost use Rattle.pin_match.specs.Assignments.{size_of, IsFull};
 ghost use Rattle.pin_match.specs.Hall.{IsHall};
 ghost use Rattle.pin_match.specs.Walks.{IsSetOf};
 
-use crate::matching::{Match, give, keep};
+use crate::matching::{Match, give, keep, take_free};
 use crate::search::search;
 use crate::walk::Walk;
 use res_base::{OutOfMemory, VarSet};
@@ -63,6 +63,7 @@ impl Matcher {
         let n = self.variables;
         let m = self.resources;
         keep(&mut self.matching, sets, n, m);
+        take_free(&mut self.matching, sets, n, m);
         'grow: while improve(&mut self.matching, sets, n, m, &mut self.walk) {}
         if self.walk.len == 0 {
             return None;
@@ -103,3 +104,6 @@ pub(crate) fn reached_set(walk: &Walk, n: usize) -> VarSet
     }
     out
 }
+
+#[cfg(test)]
+mod tests;

@@ -1,9 +1,9 @@
 //! Who has what: an assignment in two tables.
-ghost use Rattle.std.specs.Prelude.{◌≡◌, ℕ, ◌<◌, ◌≤◌, Some, length};
+ghost use Rattle.std.specs.Prelude.{◌≡◌, ℕ, ◌<◌, ◌≤◌, Some, IfSome, length};
 ghost use Rattle.pin_match.specs.Sets.{fits_in};
-ghost use Rattle.pin_match.specs.Pairs.{IsPaired, IsMatch, given_in, gave};
+ghost use Rattle.pin_match.specs.Pairs.{IsPaired, IsMatch, IsOffer, given_in, gave};
 
-use crate::sets::fits;
+use crate::sets::{fits, next_fit};
 use res_base::VarSet;
 
 /// Who has what.
@@ -58,4 +58,42 @@ pub(crate) fn keep(a: &mut Match, sets: &[VarSet], n: usize, m: usize)
         a.given[v] = None;
         a.owner[r as usize] = None;
     }
+}
+
+/// Gives each variable that has nothing the first resource of its set that nobody has.
+///
+/// Most variables are served by this, so that few searches are left.
+pub(crate) fn take_free(a: &mut Match, sets: &[VarSet], n: usize, m: usize)
+    requires matched { IsMatch n m (fits_in sets.now) a.old }
+    requires sets { length sets.now ≡ n }
+    ensures { IsMatch n m (fits_in sets.now) a.new }
+{
+    for v in 0..n {
+        if a.given[v].is_some() {
+            continue;
+        }
+        if let Some(r) = free_fit(a, sets, n, m, v as u8) {
+            let _ = give(a, v as u8, r);
+        }
+    }
+}
+
+/// The first resource in the set of a variable that nobody has.
+fn free_fit(a: &Match, sets: &[VarSet], n: usize, m: usize, v: u8) -> Option<u8>
+    requires matched { IsMatch n m (fits_in sets.now) a.now }
+    requires sets { length sets.now ≡ n }
+    requires variable { v < n }
+    ensures { IfSome result (IsOffer n m (fits_in sets.now) a.now v) }
+{
+    let mut at = 0;
+    while let Some(r) = next_fit(sets, v, at) {
+        if r as usize >= m {
+            return None;
+        }
+        if a.owner[r as usize].is_none() {
+            return Some(r);
+        }
+        at = r + 1;
+    }
+    None
 }

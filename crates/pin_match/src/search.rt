@@ -10,7 +10,14 @@ use crate::walk::{Walk, reach};
 use res_base::VarSet;
 
 /// Scans the resources of the variable at the queue's head, and gives one that nobody has, if it meets one.
-pub(crate) fn scan(a: &Match, sets: &[VarSet], n: usize, m: usize, walk: &mut Walk, v: u8) -> Option<u8>
+pub(crate) fn scan(
+    a: &Match,
+    sets: &[VarSet],
+    n: usize,
+    m: usize,
+    walk: &mut Walk,
+    v: u8,
+) -> Option<u8>
     requires matched { IsMatch n m (fits_in sets.now) a.now }
     requires sets { length sets.now ≡ n }
     requires walk { IsWalk n (fits_in sets.now) (given_in a.now) walk.old }
@@ -51,7 +58,13 @@ pub(crate) fn start(a: &Match, n: usize, walk: &mut Walk)
 }
 
 /// One search from all variables that are left out, until it meets a resource that nobody has.
-pub(crate) fn search(a: &Match, sets: &[VarSet], n: usize, m: usize, walk: &mut Walk) -> Option<(u8, u8)>
+pub(crate) fn search(
+    a: &Match,
+    sets: &[VarSet],
+    n: usize,
+    m: usize,
+    walk: &mut Walk,
+) -> Option<(u8, u8)>
     requires matched { IsMatch n m (fits_in sets.now) a.now }
     requires sets { length sets.now ≡ n }
     ensures walk { IsWalk n (fits_in sets.now) (given_in a.now) walk.new }

@@ -28,4 +28,4 @@ returns-clause-none c = (
 pub returns-clause-left_out : goal.returns-clause-left_out
 returns-clause-left_out c =
     subst (λ (x : Sizes). IsHall x.variables x.resources (fits_in c.args.sets.now) c.reached_set.result) c.self.view_is
-      (is_hall c.self.inside.variables c.self.inside.resources (fits_in c.args.sets.now) c.improve.new.a c.improve.new.walk c.improve.ensures.matched c.grow-test.ensures.improved (omega (arith, c.if-self-eq0.false)) c.reached_set.result c.reached_set.ensures)
+    (is_hall c.self.inside.variables c.self.inside.resources (fits_in c.args.sets.now) c.improve.new.a c.improve.new.walk c.improve.ensures.matched c.grow-test.ensures.improved (omega (arith, c.if-self-eq0.false)) c.reached_set.result c.reached_set.ensures)
