@@ -146,6 +146,12 @@ is_taken signals place = list_any (λ (s : Signal). is_some_of s.home place) sig
 abbrev pub free_place : ℕ → List Signal → ℕ → Result ℕ ProjectFault
 free_place n before place = if is_taken before place then Err (BadValue n) else Ok place
 
+-- the place of a pin's line
+unfoldable pub place_for : TableParts → List Signal → Line → Result ℕ ProjectFault
+place_for t before line = do
+  place ← known_pin line.number (place_of t line.value)
+  free_place line.number before place
+
 abbrev pub known_signal : ℕ → Option TableSignal → Result (Option (ℕ × TableSignal)) ProjectFault
 known_signal n None = Err (UnknownSignal n)
 known_signal n (Some s) = Ok (Some (n, s))
@@ -171,8 +177,7 @@ candidate locked place (Some s) = if locked && is_misplaced s.1 place then Err (
 -- the signal of a pin's line, where kept says that every signal must stay, and before are those of smaller k
 unfoldable pub signal_of : TableParts → List Line → Bool → List Signal → Line → Result Signal ProjectFault
 signal_of t ioc kept before line = do
-  known ← known_pin line.number (place_of t line.value)
-  place ← free_place line.number before known
+  place ← place_for t before line
   given ← signal_given t (pin_line_at ioc line.value (codes ".Signal"))
   locked ← value_or false truth_of (pin_line_at ioc line.value (codes ".Locked"))
   pull ← value_or NoPull pull_of (pin_line_at ioc line.value (codes ".GPIO_PuPd"))

@@ -1,0 +1,2 @@
+pub use Rattle.res_model.specs.Project
+pub mod Views
