@@ -1,1 +1,2 @@
+mod FirstOutside
 mod PinOrder

@@ -21,7 +21,10 @@ fn numbered(alloc: Global, lines: &[Line]) -> Result<BTreeMap<u64, &Line>, OutOf
     Ok(placed)
 }
 
-fn in_order<'l>(alloc: Global, placed: &BTreeMap<u64, &'l Line>) -> Result<Vec<&'l Line>, AllocError>
+fn in_order<'l>(
+    alloc: Global,
+    placed: &BTreeMap<u64, &'l Line>,
+) -> Result<Vec<&'l Line>, AllocError>
     ensures { IfOk result (λ v. v.items ≡ values placed.now) }
 {
     placed.values().copied().collect(alloc)
