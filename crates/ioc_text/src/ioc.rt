@@ -37,6 +37,13 @@ impl Ioc {
         Ioc { lines, places }
     }
 
+    /// The lines, in the order of the text.
+    pub fn lines(&self) -> &[Line]
+        ensures { result.now ≡ self.now }
+    {
+        self.lines.as_slice()
+    }
+
     /// The line that has this key.
     pub fn get(&self, key: &[u8]) -> Option<&Line>
         ensures { option_copied result ≡ line_at self.now key.now }

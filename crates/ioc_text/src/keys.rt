@@ -11,9 +11,9 @@ fn number_of(text: &[u8]) -> Option<u64>
     parse_dec(text)
 }
 
-/// k of a key `Mcu.Pin<k>`.
+/// k of a key `Mcu.Pin<k>`, a decimal number with no leading zero, if the key is one.
 #[tactic(auto, unfolding(res_model::specs::Lines::pin_number))]
-fn pin_number(key: &[u8]) -> Option<u64>
+pub fn pin_number(key: &[u8]) -> Option<u64>
     ensures { result ≡ pin_number key.now }
 {
     if key.starts_with(b"Mcu.Pin") {

@@ -8,5 +8,6 @@ mod lines;
 mod read;
 
 pub use ioc::Ioc;
+pub use keys::pin_number;
 pub use read::read_ioc;
 pub use res_model::{IocFault, Line};

@@ -146,6 +146,12 @@ is_taken signals place = list_any (λ (s : Signal). is_some_of s.home place) sig
 abbrev pub free_place : ℕ → List Signal → ℕ → Result ℕ ProjectFault
 free_place n before place = if is_taken before place then Err (BadValue n) else Ok place
 
+-- the place of a pin's line
+unfoldable pub place_for : TableParts → List Signal → Line → Result ℕ ProjectFault
+place_for t before line = do
+  place ← known_pin line.number (place_of t line.value)
+  free_place line.number before place
+
 abbrev pub known_signal : ℕ → Option TableSignal → Result (Option (ℕ × TableSignal)) ProjectFault
 known_signal n None = Err (UnknownSignal n)
 known_signal n (Some s) = Ok (Some (n, s))
@@ -171,8 +177,7 @@ candidate locked place (Some s) = if locked && is_misplaced s.1 place then Err (
 -- the signal of a pin's line, where kept says that every signal must stay, and before are those of smaller k
 unfoldable pub signal_of : TableParts → List Line → Bool → List Signal → Line → Result Signal ProjectFault
 signal_of t ioc kept before line = do
-  known ← known_pin line.number (place_of t line.value)
-  place ← free_place line.number before known
+  place ← place_for t before line
   given ← signal_given t (pin_line_at ioc line.value (codes ".Signal"))
   locked ← value_or false truth_of (pin_line_at ioc line.value (codes ".Locked"))
   pull ← value_or NoPull pull_of (pin_line_at ioc line.value (codes ".GPIO_PuPd"))
@@ -247,18 +252,45 @@ home_of t place form (Some line) = well_formed line.number (form line.value) >>=
 unfoldable pub hse_of : TableParts → List Line → Result ℕ ProjectFault
 hse_of t ioc = value_or t.hse_hz hertz_of (line_at ioc (codes "RCC.HSE_VALUE"))
 
+unfoldable pub m_home : TableParts → List Line → Result Home ProjectFault
+m_home t ioc = home_of t 4 (number_after []) (line_at ioc (codes "RCC.PLLM"))
+
+unfoldable pub n_home : TableParts → List Line → Result Home ProjectFault
+n_home t ioc = home_of t 5 (number_after []) (line_at ioc (codes "RCC.PLLN"))
+
+unfoldable pub q_home : TableParts → List Line → Result Home ProjectFault
+q_home t ioc = home_of t 6 (number_after []) (line_at ioc (codes "RCC.PLLQ"))
+
+unfoldable pub p_home : TableParts → List Line → Result Home ProjectFault
+p_home t ioc = home_of t 3 (number_after (codes "RCC_PLLP_DIV")) (line_at ioc (codes "RCC.PLLP"))
+
+unfoldable pub src_home : TableParts → List Line → Result Home ProjectFault
+src_home t ioc = home_of t 0 system_source_of (line_at ioc (codes "RCC.SYSCLKSource"))
+
+unfoldable pub psrc_home : TableParts → List Line → Result Home ProjectFault
+psrc_home t ioc = home_of t 1 pll_source_of (line_at ioc (codes "RCC.PLLSourceVirtual"))
+
+unfoldable pub hpre_home : TableParts → List Line → Result Home ProjectFault
+hpre_home t ioc = home_of t 2 (number_after (codes "RCC_SYSCLK_DIV")) (line_at ioc (codes "RCC.AHBCLKDivider"))
+
+unfoldable pub ppre1_home : TableParts → List Line → Result Home ProjectFault
+ppre1_home t ioc = home_of t 7 (number_after (codes "RCC_HCLK_DIV")) (line_at ioc (codes "RCC.APB1CLKDivider"))
+
+unfoldable pub ppre2_home : TableParts → List Line → Result Home ProjectFault
+ppre2_home t ioc = home_of t 8 (number_after (codes "RCC_HCLK_DIV")) (line_at ioc (codes "RCC.APB2CLKDivider"))
+
 -- the homes of src, psrc, hpre, p, m, n, q, ppre1, ppre2 and vos, which has no key
 unfoldable pub homes_of : TableParts → List Line → Result (List Home) ProjectFault
 homes_of t ioc = do
-  m ← home_of t 4 (number_after []) (line_at ioc (codes "RCC.PLLM"))
-  n ← home_of t 5 (number_after []) (line_at ioc (codes "RCC.PLLN"))
-  q ← home_of t 6 (number_after []) (line_at ioc (codes "RCC.PLLQ"))
-  p ← home_of t 3 (number_after (codes "RCC_PLLP_DIV")) (line_at ioc (codes "RCC.PLLP"))
-  src ← home_of t 0 system_source_of (line_at ioc (codes "RCC.SYSCLKSource"))
-  psrc ← home_of t 1 pll_source_of (line_at ioc (codes "RCC.PLLSourceVirtual"))
-  hpre ← home_of t 2 (number_after (codes "RCC_SYSCLK_DIV")) (line_at ioc (codes "RCC.AHBCLKDivider"))
-  ppre1 ← home_of t 7 (number_after (codes "RCC_HCLK_DIV")) (line_at ioc (codes "RCC.APB1CLKDivider"))
-  ppre2 ← home_of t 8 (number_after (codes "RCC_HCLK_DIV")) (line_at ioc (codes "RCC.APB2CLKDivider"))
+  m ← m_home t ioc
+  n ← n_home t ioc
+  q ← q_home t ioc
+  p ← p_home t ioc
+  src ← src_home t ioc
+  psrc ← psrc_home t ioc
+  hpre ← hpre_home t ioc
+  ppre1 ← ppre1_home t ioc
+  ppre2 ← ppre2_home t ioc
   Ok (src ∷ psrc ∷ hpre ∷ p ∷ m ∷ n ∷ q ∷ ppre1 ∷ ppre2 ∷ default_home t 9 ∷ [])
 
 -- Step 7: fixed clock variables have their homes in the table's domains
