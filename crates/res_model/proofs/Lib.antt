@@ -1,6 +1,6 @@
-pub mod NumberLaws
 pub mod ClockLaws
 pub mod FlashLaws
+pub mod NumberLaws
 pub mod PinLaws
 pub mod SignalLaws
 pub mod TableLaws

@@ -6,7 +6,6 @@ pub mod PinText
 pub mod Placeable
 pub mod Placement
 pub mod Project
-pub mod Numbers
 pub mod ProjectFaults
 pub mod Signals
 pub mod Steps
