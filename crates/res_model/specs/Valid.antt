@@ -1,5 +1,5 @@
 -- The rules that every table keeps.
-use Rattle.std.specs.Prelude.{ℕ, ◌<◌, ◌≤◌, length}
+use Rattle.std.specs.Prelude.{◌≡◌, ℕ, ◌<◌, ◌≤◌, List, length}
 use Rattle.res_base.specs.Lists.{Each}
 use Rattle.res_model.specs.declared.table.Pin.{Pin}
 use Rattle.res_model.specs.declared.table.PinUse.{PinUse}
