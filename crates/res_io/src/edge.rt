@@ -22,6 +22,7 @@ pub struct FileInputs<'a, R: Files> {
 impl<'a, R: Files> FileInputs<'a, R> {
     ghost use Rattle.std.specs.Prelude.{None, IsSome};
 
+    /// No file is open, and none has failed.
     pub fn new(rt: &'a R) -> FileInputs<'a, R>
         ensures files { ⟦<FileInputs<'a, R> as Inputs>⟧.files result ≡ None }
         ensures closed { ⟦<FileInputs<'a, R> as Inputs>⟧.current result ≡ None }
@@ -95,6 +96,7 @@ pub struct OutSink<'a, R: Print> {
 }
 
 impl<'a, R: Print> OutSink<'a, R> {
+    /// Nothing has failed.
     pub fn new(rt: &'a R) -> OutSink<'a, R>
         ensures written { ⟦<OutSink<'a, R> as Sink>⟧.written result ≡ None }
         ensures faults { ⟦<OutSink<'a, R> as Sink>⟧.faults result ≡ 0 }

@@ -74,6 +74,7 @@ fn fill(counts: &mut Vec<u64>, files: usize) -> Result<(), OutOfMemory>
 impl MemInputs {
     ghost use Rattle.std.specs.Prelude.{◌≡◌, None, []};
 
+    /// These files, of which none is open and none has failed.
     pub fn new(alloc: Global, files: Vec<MemFile>, failing: Vec<u64>, piece: usize) -> MemInputs
         requires { 0 < piece }
         ensures files { result.shelf.files ≡ files.items }

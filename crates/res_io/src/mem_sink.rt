@@ -35,6 +35,7 @@ impl Model for MemSink {
 }
 
 impl MemSink {
+    /// A sink that nothing was written to, and that has no room yet.
     pub fn new(alloc: Global, failing: Vec<u64>, piece: usize) -> MemSink
         requires { 0 < piece }
         ensures { result ≡ record { written = []; faults = 0; failing = failing.items; calls = 0; piece = piece; room = 0 } }

@@ -47,6 +47,7 @@ fn bytes_of(files: &[MemFile], place: usize) -> &[u8]
 }
 
 impl Shelf {
+    /// These files, of which none is open.
     pub fn new(files: Vec<MemFile>) -> Shelf
         ensures files { result.files ≡ files.items }
         ensures closed { result.name ≡ None }
@@ -60,6 +61,7 @@ impl Shelf {
         }
     }
 
+    /// How many files there are.
     pub fn len(&self) -> usize
         ensures { result ≡ length self.now.files }
     {

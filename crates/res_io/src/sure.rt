@@ -24,6 +24,7 @@ impl Model for SureInputs {
 }
 
 impl SureInputs {
+    /// These files, of which none is open.
     pub fn new(files: Vec<MemFile>) -> SureInputs
         ensures files { result.files ≡ files.items }
         ensures closed { result.name ≡ None }

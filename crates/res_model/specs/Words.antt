@@ -8,7 +8,7 @@
 --
 -- OPTIONS are --vdd MV, --need SIGNAL, --hclk HZ, --pclk1 HZ, --pclk2 HZ and --free pins|clock|all|none. Options stand
 -- after the names, in any order, and each at most once but --need. T, P, PROOF and SIGNAL are any words.
-use Rattle.std.specs.Prelude.{ℕ, ◌≤◌, IfSome, ◌+◌, ◌&&◌, Bool, true, false, List, [], ◌∷◌, ◌++◌, length, find, codes, nat_le, if◌then◌else◌, Option, Some, None, option_and_then, option_map, is_some, unwrap_or, Result, Ok, Err}
+use Rattle.std.specs.Prelude.{ℕ, ◌≤◌, IfSome, ◌+◌, Bool, true, false, List, [], ◌∷◌, ◌++◌, length, find, codes, nat_le, if◌then◌else◌, Option, Some, None, option_and_then, option_map, is_some, unwrap_or, Result, Ok, Err}
 use Rattle.std.specs.Str.{bytes_eq}
 use Rattle.res_model.specs.Numbers.{number_of, number_up_to}
 use Rattle.res_model.specs.Steps.{◌>>=◌}
