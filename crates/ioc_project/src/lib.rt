@@ -13,3 +13,6 @@ mod values;
 
 pub use project::read_project;
 pub use res_model::{Home, Project, ProjectFault, Pull, Signal, Speed};
+
+#[cfg(test)]
+mod tests;

@@ -1,4 +1,4 @@
-ghost use Rattle.std.specs.Prelude.{◌≡◌};
+ghost use Rattle.std.specs.Prelude.{◌≤◌, length};
 ghost use Rattle.res_model.specs.Project.{project_of};
 ghost use Rattle.res_model.specs.ProjectFaults.{Gives};
 
@@ -11,13 +11,12 @@ use crate::pins::pin_lines;
 use crate::signals::push_signals;
 use ioc_text::Ioc;
 use res_base::Items;
-use res_model::{Opts, Project, ProjectFault, Tables};
+use res_model::{Opts, Project, ProjectFault, TableParts, Tables};
 use std::alloc::Global;
 
 /// Reads the project that the lines tell under a table, or its first refusal.
 ///
 /// `clocks` says that clock variables are in play; their homes are then judged where `opts` fixes them.
-#[tactic(auto, unfolding(res_model::specs::Project::project_of))]
 pub fn read_project(
     alloc: Global,
     t: &Tables,
@@ -27,7 +26,21 @@ pub fn read_project(
 ) -> Result<Project, ProjectFault>
     ensures { Gives (λ project. project) result (project_of t.now ioc.now opts.now clocks) }
 {
-    let t = t.parts();
+    project_under(alloc, t.parts(), ioc, opts, clocks)
+}
+
+/// The same under what a table says.
+#[tactic(auto, unfolding(res_model::specs::Project::project_of))]
+pub(crate) fn project_under(
+    alloc: Global,
+    t: &TableParts,
+    ioc: &Ioc,
+    opts: &Opts,
+    clocks: bool,
+) -> Result<Project, ProjectFault>
+    requires { length t.now.pins ≤ 144 }
+    ensures { Gives (λ project. project) result (project_of t.now ioc.now opts.now clocks) }
+{
     part_of(t, ioc)?;
     let kept = kept_of(ioc)?;
     let pins = pin_lines(alloc, ioc)?;

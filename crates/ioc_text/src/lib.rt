@@ -11,3 +11,6 @@ pub use ioc::Ioc;
 pub use keys::pin_number;
 pub use read::read_ioc;
 pub use res_model::{IocFault, Line};
+
+#[cfg(test)]
+mod tests;
