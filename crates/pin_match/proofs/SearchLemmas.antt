@@ -1,5 +1,5 @@
 -- The search, step by step.
-use Rattle.std.proofs.Common.{◌≡◌, ℕ, ◌+◌, ◌<◌, ◌≤◌, get_or, replicate, not, Bool, true, false, Option, Some, None, inl, inr, refl, sym, subst, ap, ◌∙◌, arith}
+use Rattle.std.proofs.Common.{◌≡◌, ℕ, ◌+◌, ◌<◌, ◌≤◌, get_or, replicate, is_some, not, Bool, true, false, Option, Some, None, inl, inr, refl, sym, subst, ap, ◌∙◌, arith}
 use Rattle.std.proofs.lemmas.List.{length-replicate, get_or-replicate, get_or_past}
 use Rattle.pin_match.specs.declared.walk.Walk.{Walk}
 use Rattle.pin_match.specs.declared.matching.Match.{Match}
@@ -156,9 +156,9 @@ started_empty n f few =
 pub searched_first : (n m : ℕ) (fits : ℕ → ℕ → Bool) (f : ℕ → Option ℕ) (w : Walk) → Started n f w n → Searched n m fits f w 0
 searched_first n m fits f w s = record { is_walk = s.is_walk fits; left_out = λ v l e. s.left_out v l l e; closed = λ x r l h e p. absurd (omega arith) }
 
-pub none_of : (o : Option ℕ) → ((x : ℕ) → o ≡ Some x → ⊥) → o ≡ None
+pub none_of : (o : Option ℕ) → is_some o ≡ false → o ≡ None
 none_of None h = refl
-none_of (Some x) h = absurd (h x refl)
+none_of (Some x) h = cc
 
 -- to the next resource of the set, and past the last one
 module _ (n : ℕ) (fits : ℕ → ℕ → Bool) (f : ℕ → Option ℕ) (old w : Walk) (v at : ℕ) (s : Scanned n fits f old w v at) where

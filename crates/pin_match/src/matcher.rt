@@ -60,46 +60,58 @@ impl Matcher {
         ensures none { IsNone result ↔ IsFull self.old.variables self.old.resources (fits_in sets.now) }
         ensures left_out { IfSome result (IsHall self.old.variables self.old.resources (fits_in sets.now)) }
     {
-        let n = self.variables;
-        let m = self.resources;
-        keep(&mut self.matching, sets, n, m);
-        take_free(&mut self.matching, sets, n, m);
-        'grow: while improve(&mut self.matching, sets, n, m, &mut self.walk) {}
+        let variables = self.variables;
+        let resources = self.resources;
+        keep(&mut self.matching, sets, variables, resources);
+        take_free(&mut self.matching, sets, variables, resources);
+        'grow: while improve(
+            &mut self.matching,
+            sets,
+            variables,
+            resources,
+            &mut self.walk,
+        ) {}
         if self.walk.len == 0 {
             return None;
         }
-        Some(reached_set(&self.walk, n))
+        Some(reached_set(&self.walk, variables))
     }
 }
 
 /// Gives one more variable a resource, or finds that none can get one.
-pub(crate) fn improve(a: &mut Match, sets: &[VarSet], n: usize, m: usize, walk: &mut Walk) -> bool
-    requires matched { IsMatch n m (fits_in sets.now) a.old }
-    requires sets { length sets.now ≡ n }
-    ensures matched { IsMatch n m (fits_in sets.now) a.new }
-    ensures improved { MatchBool result (size_of n (given_in a.new) ≡ size_of n (given_in a.old) + 1) (IsClosed n m (fits_in sets.now) a.new walk.new) }
+pub(crate) fn improve(
+    matching: &mut Match,
+    sets: &[VarSet],
+    variables: usize,
+    resources: usize,
+    walk: &mut Walk,
+) -> bool
+    requires matched { IsMatch variables resources (fits_in sets.now) matching.old }
+    requires sets { length sets.now ≡ variables }
+    ensures matched { IsMatch variables resources (fits_in sets.now) matching.new }
+    ensures improved { MatchBool result (size_of variables (given_in matching.new) ≡ size_of variables (given_in matching.old) + 1) (IsClosed variables resources (fits_in sets.now) matching.new walk.new) }
 {
-    let Some((first, free)) = search(a, sets, n, m, walk) else {
+    let Some((first, free)) = search(matching, sets, variables, resources, walk) else {
         return false;
     };
-    let mut v = first;
-    let mut r = free;
-    while let Some(s) = give(a, v, r) {
-        v = walk.from[v as usize];
-        r = s;
+    let mut variable = first;
+    let mut resource = free;
+    while let Some(let_go) = give(matching, variable, resource) {
+        variable = walk.from[variable as usize];
+        resource = let_go;
     }
     true
 }
 
 /// The set of what is reached.
-pub(crate) fn reached_set(walk: &Walk, n: usize) -> VarSet
-    requires { n ≤ 192 }
-    ensures { IsSetOf n walk.now result }
+pub(crate) fn reached_set(walk: &Walk, variables: usize) -> VarSet
+    requires { variables ≤ 192 }
+    ensures { IsSetOf variables walk.now result }
 {
     let mut out = VarSet::new();
-    for v in 0..n {
-        if walk.reached[v] {
-            out.put(v as u8);
+    for variable in 0..variables {
+        if walk.reached[variable] {
+            out.put(variable as u8);
         }
     }
     out

@@ -26,74 +26,80 @@ impl Match {
 }
 
 /// Gives the resource to the variable, and returns what the variable had.
-pub(crate) fn give(a: &mut Match, v: u8, r: u8) -> Option<u8>
-    requires variable { v < 192 }
-    requires resource { r < 192 }
-    requires held { (s : ℕ) → given_in a.old v ≡ Some s → s < 192 }
-    ensures gave { a.new ≡ gave a.old v r }
-    ensures had { result ≡ given_in a.old v }
+pub(crate) fn give(matching: &mut Match, variable: u8, resource: u8) -> Option<u8>
+    requires variable { variable < 192 }
+    requires resource { resource < 192 }
+    requires held { (s : ℕ) → given_in matching.old variable ≡ Some s → s < 192 }
+    ensures gave { matching.new ≡ gave matching.old variable resource }
+    ensures had { result ≡ given_in matching.old variable }
 {
-    let had = a.given[v as usize];
-    if let Some(s) = had {
-        a.owner[s as usize] = None;
+    let had = matching.given[variable as usize];
+    if let Some(let_go) = had {
+        matching.owner[let_go as usize] = None;
     }
-    a.given[v as usize] = Some(r);
-    a.owner[r as usize] = Some(v);
+    matching.given[variable as usize] = Some(resource);
+    matching.owner[resource as usize] = Some(variable);
     had
 }
 
 /// Drops what a variable has where it is no longer in its set.
-pub(crate) fn keep(a: &mut Match, sets: &[VarSet], n: usize, m: usize)
-    requires paired { IsPaired n m a.old }
-    requires sets { length sets.now ≡ n }
-    ensures { IsMatch n m (fits_in sets.now) a.new }
+pub(crate) fn keep(matching: &mut Match, sets: &[VarSet], variables: usize, resources: usize)
+    requires paired { IsPaired variables resources matching.old }
+    requires sets { length sets.now ≡ variables }
+    ensures { IsMatch variables resources (fits_in sets.now) matching.new }
 {
-    for v in 0..n {
-        let Some(r) = a.given[v] else {
+    for variable in 0..variables {
+        let Some(resource) = matching.given[variable] else {
             continue;
         };
-        if fits(sets, v as u8, r) {
+        if fits(sets, variable as u8, resource) {
             continue;
         }
-        a.given[v] = None;
-        a.owner[r as usize] = None;
+        matching.given[variable] = None;
+        matching.owner[resource as usize] = None;
     }
 }
 
 /// Gives each variable that has nothing the first resource of its set that nobody has.
 ///
 /// Most variables are served by this, so that few searches are left.
-pub(crate) fn take_free(a: &mut Match, sets: &[VarSet], n: usize, m: usize)
-    requires matched { IsMatch n m (fits_in sets.now) a.old }
-    requires sets { length sets.now ≡ n }
-    ensures { IsMatch n m (fits_in sets.now) a.new }
+pub(crate) fn take_free(matching: &mut Match, sets: &[VarSet], variables: usize, resources: usize)
+    requires matched { IsMatch variables resources (fits_in sets.now) matching.old }
+    requires sets { length sets.now ≡ variables }
+    ensures { IsMatch variables resources (fits_in sets.now) matching.new }
 {
-    for v in 0..n {
-        if a.given[v].is_some() {
+    for variable in 0..variables {
+        if matching.given[variable].is_some() {
             continue;
         }
-        if let Some(r) = free_fit(a, sets, n, m, v as u8) {
-            let _ = give(a, v as u8, r);
+        if let Some(resource) = free_fit(matching, sets, variables, resources, variable as u8) {
+            let _ = give(matching, variable as u8, resource);
         }
     }
 }
 
 /// The first resource in the set of a variable that nobody has.
-fn free_fit(a: &Match, sets: &[VarSet], n: usize, m: usize, v: u8) -> Option<u8>
-    requires matched { IsMatch n m (fits_in sets.now) a.now }
-    requires sets { length sets.now ≡ n }
-    requires variable { v < n }
-    ensures { IfSome result (IsOffer n m (fits_in sets.now) a.now v) }
+fn free_fit(
+    matching: &Match,
+    sets: &[VarSet],
+    variables: usize,
+    resources: usize,
+    variable: u8,
+) -> Option<u8>
+    requires matched { IsMatch variables resources (fits_in sets.now) matching.now }
+    requires sets { length sets.now ≡ variables }
+    requires variable { variable < variables }
+    ensures { IfSome result (IsOffer variables resources (fits_in sets.now) matching.now variable) }
 {
     let mut at = 0;
-    while let Some(r) = next_fit(sets, v, at) {
-        if r as usize >= m {
+    while let Some(resource) = next_fit(sets, variable, at) {
+        if resource as usize >= resources {
             return None;
         }
-        if a.owner[r as usize].is_none() {
-            return Some(r);
+        if matching.owner[resource as usize].is_none() {
+            return Some(resource);
         }
-        at = r + 1;
+        at = resource + 1;
     }
     None
 }

@@ -11,71 +11,71 @@ use res_base::VarSet;
 
 /// Scans the resources of the variable at the queue's head, and gives one that nobody has, if it meets one.
 pub(crate) fn scan(
-    a: &Match,
+    matching: &Match,
     sets: &[VarSet],
-    n: usize,
-    m: usize,
+    variables: usize,
+    resources: usize,
     walk: &mut Walk,
-    v: u8,
+    variable: u8,
 ) -> Option<u8>
-    requires matched { IsMatch n m (fits_in sets.now) a.now }
-    requires sets { length sets.now ≡ n }
-    requires walk { IsWalk n (fits_in sets.now) (given_in a.now) walk.old }
-    requires variable { v < n }
-    requires reached { reached_in walk.old v ≡ true }
-    ensures walk { IsWalk n (fits_in sets.now) (given_in a.now) walk.new }
-    ensures scanned { MatchOption result (Scanned n (fits_in sets.now) (given_in a.now) walk.old walk.new v m) (λ r. Met n m (fits_in sets.now) a.now walk.new v r) }
+    requires matched { IsMatch variables resources (fits_in sets.now) matching.now }
+    requires sets { length sets.now ≡ variables }
+    requires walk { IsWalk variables (fits_in sets.now) (given_in matching.now) walk.old }
+    requires variable { variable < variables }
+    requires reached { reached_in walk.old variable ≡ true }
+    ensures walk { IsWalk variables (fits_in sets.now) (given_in matching.now) walk.new }
+    ensures scanned { MatchOption result (Scanned variables (fits_in sets.now) (given_in matching.now) walk.old walk.new variable resources) (λ r. Met variables resources (fits_in sets.now) matching.now walk.new variable r) }
 {
     let mut at = 0;
-    while let Some(r) = next_fit(sets, v, at) {
-        if r as usize >= m {
+    while let Some(resource) = next_fit(sets, variable, at) {
+        if resource as usize >= resources {
             return None;
         }
-        let Some(w) = a.owner[r as usize] else {
-            return Some(r);
+        let Some(owner) = matching.owner[resource as usize] else {
+            return Some(resource);
         };
-        at = r + 1;
-        if walk.reached[w as usize] {
+        at = resource + 1;
+        if walk.reached[owner as usize] {
             continue;
         }
-        reach(walk, w, v);
+        reach(walk, owner, variable);
     }
     None
 }
 
 /// Begins a search at the variables that are left out.
-pub(crate) fn start(a: &Match, n: usize, walk: &mut Walk)
-    requires { n ≤ 192 }
-    ensures { Started n (given_in a.now) walk.new n }
+pub(crate) fn start(matching: &Match, variables: usize, walk: &mut Walk)
+    requires { variables ≤ 192 }
+    ensures { Started variables (given_in matching.now) walk.new variables }
 {
     *walk = Walk::new();
-    for v in 0..n {
-        let Some(_r) = a.given[v] else {
-            reach(walk, v as u8, v as u8);
+    for variable in 0..variables {
+        if matching.given[variable].is_some() {
             continue;
-        };
+        }
+        reach(walk, variable as u8, variable as u8);
     }
 }
 
 /// One search from all variables that are left out, until it meets a resource that nobody has.
 pub(crate) fn search(
-    a: &Match,
+    matching: &Match,
     sets: &[VarSet],
-    n: usize,
-    m: usize,
+    variables: usize,
+    resources: usize,
     walk: &mut Walk,
 ) -> Option<(u8, u8)>
-    requires matched { IsMatch n m (fits_in sets.now) a.now }
-    requires sets { length sets.now ≡ n }
-    ensures walk { IsWalk n (fits_in sets.now) (given_in a.now) walk.new }
-    ensures searched { MatchOption result (IsClosed n m (fits_in sets.now) a.now walk.new) (λ p. Met n m (fits_in sets.now) a.now walk.new p.0 p.1) }
+    requires matched { IsMatch variables resources (fits_in sets.now) matching.now }
+    requires sets { length sets.now ≡ variables }
+    ensures walk { IsWalk variables (fits_in sets.now) (given_in matching.now) walk.new }
+    ensures searched { MatchOption result (IsClosed variables resources (fits_in sets.now) matching.now walk.new) (λ p. Met variables resources (fits_in sets.now) matching.now walk.new p.0 p.1) }
 {
-    start(a, n, walk);
+    start(matching, variables, walk);
     let mut head = 0;
     while head < walk.len {
-        let v = walk.queue[head];
-        if let Some(r) = scan(a, sets, n, m, walk, v) {
-            return Some((v, r));
+        let variable = walk.queue[head];
+        if let Some(resource) = scan(matching, sets, variables, resources, walk, variable) {
+            return Some((variable, resource));
         }
         head += 1;
     }

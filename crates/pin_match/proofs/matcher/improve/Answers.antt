@@ -9,25 +9,25 @@ use Rattle.pin_match.proofs.matcher.improve.Goals as goal
 
 pub give-requires-clause-held : goal.give-requires-clause-held
 give-requires-clause-held c s e =
-    let k = c.loop-s.invariant.0 in
-    omega (arith, (k.is_match.paired.given c.loop-s.v s k.offer.variable e).0, k.is_match.paired.few_resources)
+    let k = c.loop-let_go.invariant.0 in
+    omega (arith, (k.is_match.paired.given c.loop-let_go.variable s k.offer.variable e).0, k.is_match.paired.few_resources)
 
-pub loop-s-smaller : goal.loop-s-smaller
-loop-s-smaller c = carried_less c.args.n c.args.m (fits_in c.args.sets.now) (given_in c.args.a.now) c.search.new.walk c.loop-s.invariant.1 c.loop-s.a c.loop-s.v c.loop-s.r c.loop-s.invariant.0 c.in-Some-give.s (sym c.give.ensures.had ∙ c.in-Some-give.is)
+pub loop-let_go-smaller : goal.loop-let_go-smaller
+loop-let_go-smaller c = carried_less c.args.variables c.args.resources (fits_in c.args.sets.now) (given_in c.args.matching.now) c.search.new.walk c.loop-let_go.invariant.1 c.loop-let_go.matching c.loop-let_go.variable c.loop-let_go.resource c.loop-let_go.invariant.0 c.in-Some-give.let_go (sym c.give.ensures.had ∙ c.in-Some-give.is)
 
-pub loop-s-preserved : goal.loop-s-preserved
-loop-s-preserved c = (
-  subst (λ (x : Match). Carried c.args.n c.args.m (fits_in c.args.sets.now) (given_in c.args.a.now) c.search.new.walk x (from_in c.search.new.walk c.loop-s.v) c.in-Some-give.s) (sym c.give.ensures.gave)
-      (carried_next c.args.n c.args.m (fits_in c.args.sets.now) (given_in c.args.a.now) c.search.new.walk c.loop-s.invariant.1 c.loop-s.a c.loop-s.v c.loop-s.r c.loop-s.invariant.0 c.in-Some-give.s (sym c.give.ensures.had ∙ c.in-Some-give.is)),
-  c.loop-s.invariant.1,
+pub loop-let_go-preserved : goal.loop-let_go-preserved
+loop-let_go-preserved c = (
+  subst (λ (x : Match). Carried c.args.variables c.args.resources (fits_in c.args.sets.now) (given_in c.args.matching.now) c.search.new.walk x (from_in c.search.new.walk c.loop-let_go.variable) c.in-Some-give.let_go) (sym c.give.ensures.gave)
+      (carried_next c.args.variables c.args.resources (fits_in c.args.sets.now) (given_in c.args.matching.now) c.search.new.walk c.loop-let_go.invariant.1 c.loop-let_go.matching c.loop-let_go.variable c.loop-let_go.resource c.loop-let_go.invariant.0 c.in-Some-give.let_go (sym c.give.ensures.had ∙ c.in-Some-give.is)),
+  c.loop-let_go.invariant.1,
 )
 
 pub returns-clause-matched : goal.returns-clause-matched
 returns-clause-matched c =
-    subst (λ (x : Match). IsMatch c.args.n c.args.m (fits_in c.args.sets.now) x) (sym c.give.ensures.gave)
-    (carried_end c.args.n c.args.m (fits_in c.args.sets.now) (given_in c.args.a.now) c.search.new.walk c.loop-s.invariant.1 c.loop-s.a c.loop-s.v c.loop-s.r c.loop-s.invariant.0 (sym c.give.ensures.had ∙ c.in_default-give.is)).0
+    subst (λ (x : Match). IsMatch c.args.variables c.args.resources (fits_in c.args.sets.now) x) (sym c.give.ensures.gave)
+    (carried_end c.args.variables c.args.resources (fits_in c.args.sets.now) (given_in c.args.matching.now) c.search.new.walk c.loop-let_go.invariant.1 c.loop-let_go.matching c.loop-let_go.variable c.loop-let_go.resource c.loop-let_go.invariant.0 (sym c.give.ensures.had ∙ c.in_default-give.is)).0
 
 pub returns-clause-improved : goal.returns-clause-improved
 returns-clause-improved c =
-    subst (λ (x : Match). size_of c.args.n (given_in x) ≡ size_of c.args.n (given_in c.args.a.now) + 1) (sym c.give.ensures.gave)
-    (carried_end c.args.n c.args.m (fits_in c.args.sets.now) (given_in c.args.a.now) c.search.new.walk c.loop-s.invariant.1 c.loop-s.a c.loop-s.v c.loop-s.r c.loop-s.invariant.0 (sym c.give.ensures.had ∙ c.in_default-give.is)).1
+    subst (λ (x : Match). size_of c.args.variables (given_in x) ≡ size_of c.args.variables (given_in c.args.matching.now) + 1) (sym c.give.ensures.gave)
+    (carried_end c.args.variables c.args.resources (fits_in c.args.sets.now) (given_in c.args.matching.now) c.search.new.walk c.loop-let_go.invariant.1 c.loop-let_go.matching c.loop-let_go.variable c.loop-let_go.resource c.loop-let_go.invariant.0 (sym c.give.ensures.had ∙ c.in_default-give.is)).1

@@ -3,8 +3,8 @@ use Rattle.pin_match.specs.Walks.{IsWalk, place_in}
 use Rattle.pin_match.specs.Pairs.{Carried, given_in}
 use Rattle.pin_match.proofs.matcher.improve.Given as goal
 
-abbrev pub invariant-loop-s : goal.invariant-loop-s
-invariant-loop-s l = Carried l.n l.m (fits_in l.sets) (given_in l.fn.a) l.walk l.a l.v l.r × IsWalk l.n (fits_in l.sets) (given_in l.fn.a) l.walk
+abbrev pub invariant-loop-let_go : goal.invariant-loop-let_go
+invariant-loop-let_go l = Carried l.variables l.resources (fits_in l.sets) (given_in l.fn.matching) l.walk l.matching l.variable l.resource × IsWalk l.variables (fits_in l.sets) (given_in l.fn.matching) l.walk
 
-abbrev pub decreases-loop-s : goal.decreases-loop-s
-decreases-loop-s l = place_in l.walk l.v
+abbrev pub decreases-loop-let_go : goal.decreases-loop-let_go
+decreases-loop-let_go l = place_in l.walk l.variable

@@ -1,8 +1,8 @@
 use Rattle.std.proofs.Common.{◌-◌, ◌≤◌}
 use Rattle.pin_match.proofs.matching.free_fit.Given as goal
 
-abbrev pub invariant-loop-r : goal.invariant-loop-r
-invariant-loop-r l = l.at ≤ 192
+abbrev pub invariant-loop-resource : goal.invariant-loop-resource
+invariant-loop-resource l = l.at ≤ 192
 
-abbrev pub decreases-loop-r : goal.decreases-loop-r
-decreases-loop-r l = 192 - l.at
+abbrev pub decreases-loop-resource : goal.decreases-loop-resource
+decreases-loop-resource l = 192 - l.at

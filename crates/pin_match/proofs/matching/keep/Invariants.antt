@@ -3,5 +3,5 @@ use Rattle.pin_match.specs.Sets.{fits_in}
 use Rattle.pin_match.specs.Pairs.{IsPaired, given_in}
 use Rattle.pin_match.proofs.matching.keep.Given as goal
 
-abbrev pub invariant-loop-v : goal.invariant-loop-v
-invariant-loop-v l = IsPaired l.n l.m l.a × ((v r : ℕ) → v < l.v → v < l.n → given_in l.a v ≡ Some r → fits_in l.sets v r ≡ true)
+abbrev pub invariant-loop-variable : goal.invariant-loop-variable
+invariant-loop-variable l = IsPaired l.variables l.resources l.matching × ((v r : ℕ) → v < l.variable → v < l.variables → given_in l.matching v ≡ Some r → fits_in l.sets v r ≡ true)

@@ -6,10 +6,10 @@ use Rattle.pin_match.proofs.PairLemmas.{gave_match}
 use Rattle.pin_match.proofs.matching.take_free.Goals as goal
 use Rattle.pin_match.proofs.matching.take_free.Goals.{in-Some, in_default}
 
-pub loop-v-preserved : goal.loop-v-preserved
-loop-v-preserved c = elim c.match-free_fit.branch [
+pub loop-variable-preserved : goal.loop-variable-preserved
+loop-variable-preserved c = elim c.match-free_fit.branch [
   | in-Some w ↦
-      subst (λ (x : Match). IsMatch c.args.n c.args.m (fits_in c.args.sets.now) x) (sym (w.a-is ∙ w.give.ensures.gave))
-      (gave_match c.args.n c.args.m (fits_in c.args.sets.now) c.loop-v.a c.loop-v.invariant c.loop-v.v w.in-Some.r w.in-Some.ensures)
-  | in_default w ↦ subst (λ (x : Match). IsMatch c.args.n c.args.m (fits_in c.args.sets.now) x) (sym w.a-is) c.loop-v.invariant
+      subst (λ (x : Match). IsMatch c.args.variables c.args.resources (fits_in c.args.sets.now) x) (sym (w.matching-is ∙ w.give.ensures.gave))
+      (gave_match c.args.variables c.args.resources (fits_in c.args.sets.now) c.loop-variable.matching c.loop-variable.invariant c.loop-variable.variable w.in-Some.resource w.in-Some.ensures)
+  | in_default w ↦ subst (λ (x : Match). IsMatch c.args.variables c.args.resources (fits_in c.args.sets.now) x) (sym w.matching-is) c.loop-variable.invariant
 ]

@@ -8,36 +8,36 @@ use Rattle.pin_match.proofs.search.scan.Goals as goal
 use Rattle.pin_match.proofs.search.scan.Goals.{In-Some-owner}
 
 -- the resources below the one at hand
-so_far : (c : In-Some-owner) → Scanned c.args.n (fits_in c.args.sets.now) (given_in c.args.a.now) c.args.walk.now c.loop-r.walk c.args.v c.in-Some.r
-so_far c = scanned_to c.args.n (fits_in c.args.sets.now) (given_in c.args.a.now) c.args.walk.now c.loop-r.walk c.args.v c.loop-r.at c.loop-r.invariant.0 c.in-Some.r c.in-Some.ensures
+so_far : (c : In-Some-owner) → Scanned c.args.variables (fits_in c.args.sets.now) (given_in c.args.matching.now) c.args.walk.now c.loop-resource.walk c.args.variable c.in-Some.resource
+so_far c = scanned_to c.args.variables (fits_in c.args.sets.now) (given_in c.args.matching.now) c.args.walk.now c.loop-resource.walk c.args.variable c.loop-resource.at c.loop-resource.invariant.0 c.in-Some.resource c.in-Some.ensures
 
-below : (c : In-Some-owner) → c.in-Some-owner.w < 192
+below : (c : In-Some-owner) → c.in-Some-owner.owner < 192
 below c =
-    let h = owner_below c.args.n c.args.m (fits_in c.args.sets.now) c.args.a.now c.requires.matched c.args.walk.now c.loop-r.walk c.args.v c.in-Some.r c.in-Some-owner.w (so_far c) c.if-r-m.false c.in-Some-owner.is in
+    let h = owner_below c.args.variables c.args.resources (fits_in c.args.sets.now) c.args.matching.now c.requires.matched c.args.walk.now c.loop-resource.walk c.args.variable c.in-Some.resource c.in-Some-owner.owner (so_far c) c.if-resource-resources.false c.in-Some-owner.is in
     omega (arith, h, c.requires.walk.few)
 
-pub bounds-walk-w : goal.bounds-walk-w
-bounds-walk-w c = below (goal.at.bounds-walk-w c).In-Some-owner
+pub bounds-walk-owner : goal.bounds-walk-owner
+bounds-walk-owner c = below (goal.at.bounds-walk-owner c).In-Some-owner
 
 pub reach-requires-clause-variable : goal.reach-requires-clause-variable
 reach-requires-clause-variable c = below (goal.at.reach-requires-clause-variable c).In-Some-owner
 
 pub reach-requires-clause-room : goal.reach-requires-clause-room
 reach-requires-clause-room c =
-    let h = scan_room c.args.n c.args.m (fits_in c.args.sets.now) c.args.a.now c.requires.matched c.args.walk.now c.loop-r.walk c.args.v c.in-Some.r c.in-Some-owner.w (so_far (goal.at.reach-requires-clause-room c).In-Some-owner) c.if-r-m.false c.in-Some-owner.is
-    c.requires.variable c.requires.reached c.in-Some.ensures.member c.if-walk-w.false in
+    let h = scan_room c.args.variables c.args.resources (fits_in c.args.sets.now) c.args.matching.now c.requires.matched c.args.walk.now c.loop-resource.walk c.args.variable c.in-Some.resource c.in-Some-owner.owner (so_far (goal.at.reach-requires-clause-room c).In-Some-owner) c.if-resource-resources.false c.in-Some-owner.is
+    c.requires.variable c.requires.reached c.in-Some.ensures.member c.if-walk-owner.false in
     omega (arith, h, c.requires.walk.few)
 
-pub loop-r-preserved-then-walk-w : goal.loop-r-preserved-then-walk-w
-loop-r-preserved-then-walk-w c = (
-  scanned_old c.args.n c.args.m (fits_in c.args.sets.now) c.args.a.now c.requires.matched c.args.walk.now c.loop-r.walk c.args.v c.in-Some.r c.in-Some-owner.w (so_far (goal.at.loop-r-preserved-then-walk-w c).In-Some-owner) c.if-r-m.false c.in-Some-owner.is c.if-walk-w.true,
+pub loop-resource-preserved-then-walk-owner : goal.loop-resource-preserved-then-walk-owner
+loop-resource-preserved-then-walk-owner c = (
+  scanned_old c.args.variables c.args.resources (fits_in c.args.sets.now) c.args.matching.now c.requires.matched c.args.walk.now c.loop-resource.walk c.args.variable c.in-Some.resource c.in-Some-owner.owner (so_far (goal.at.loop-resource-preserved-then-walk-owner c).In-Some-owner) c.if-resource-resources.false c.in-Some-owner.is c.if-walk-owner.true,
   omega (arith, c.in-Some.ensures.below),
 )
 
-pub loop-r-preserved : goal.loop-r-preserved
-loop-r-preserved c = (
-  subst (λ (x : Walk). Scanned c.args.n (fits_in c.args.sets.now) (given_in c.args.a.now) c.args.walk.now x c.args.v (c.in-Some.r + 1)) (sym c.reach.ensures)
-      (scanned_new c.args.n c.args.m (fits_in c.args.sets.now) c.args.a.now c.requires.matched c.args.walk.now c.loop-r.walk c.args.v c.in-Some.r c.in-Some-owner.w (so_far (goal.at.loop-r-preserved c).In-Some-owner) c.if-r-m.false c.in-Some-owner.is
-      c.requires.variable c.requires.reached c.in-Some.ensures.member c.if-walk-w.false),
+pub loop-resource-preserved : goal.loop-resource-preserved
+loop-resource-preserved c = (
+  subst (λ (x : Walk). Scanned c.args.variables (fits_in c.args.sets.now) (given_in c.args.matching.now) c.args.walk.now x c.args.variable (c.in-Some.resource + 1)) (sym c.reach.ensures)
+      (scanned_new c.args.variables c.args.resources (fits_in c.args.sets.now) c.args.matching.now c.requires.matched c.args.walk.now c.loop-resource.walk c.args.variable c.in-Some.resource c.in-Some-owner.owner (so_far (goal.at.loop-resource-preserved c).In-Some-owner) c.if-resource-resources.false c.in-Some-owner.is
+      c.requires.variable c.requires.reached c.in-Some.ensures.member c.if-walk-owner.false),
   omega (arith, c.in-Some.ensures.below),
 )

@@ -4,8 +4,8 @@ use Rattle.pin_match.specs.Walks.{Scanned}
 use Rattle.pin_match.specs.Pairs.{given_in}
 use Rattle.pin_match.proofs.search.scan.Given as goal
 
-abbrev pub invariant-loop-r : goal.invariant-loop-r
-invariant-loop-r l = Scanned l.n (fits_in l.sets) (given_in l.a) l.initial.walk l.walk l.v l.at × (l.at ≤ 192)
+abbrev pub invariant-loop-resource : goal.invariant-loop-resource
+invariant-loop-resource l = Scanned l.variables (fits_in l.sets) (given_in l.matching) l.initial.walk l.walk l.variable l.at × (l.at ≤ 192)
 
-abbrev pub decreases-loop-r : goal.decreases-loop-r
-decreases-loop-r l = 192 - l.at
+abbrev pub decreases-loop-resource : goal.decreases-loop-resource
+decreases-loop-resource l = 192 - l.at

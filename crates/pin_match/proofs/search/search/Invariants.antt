@@ -5,7 +5,7 @@ use Rattle.pin_match.specs.Pairs.{given_in}
 use Rattle.pin_match.proofs.search.search.Given as goal
 
 abbrev pub invariant-loop-head : goal.invariant-loop-head
-invariant-loop-head l = Searched l.n l.m (fits_in l.sets) (given_in l.a) l.walk l.head
+invariant-loop-head l = Searched l.variables l.resources (fits_in l.sets) (given_in l.matching) l.walk l.head
 
 abbrev pub decreases-loop-head : goal.decreases-loop-head
-decreases-loop-head l = l.n - l.head
+decreases-loop-head l = l.variables - l.head
