@@ -89,17 +89,34 @@ fn drain_at(at: Spot, found: Option<&Value>) -> Result<bool, Flaw>
 }
 
 #[tactic(auto, unfolding(res_model::specs::Table::signal))]
-fn signal_at(alloc: Global, pins: &[Pin], before: &[TableSignal], i: usize, value: &Value) -> Result<TableSignal, Flaw>
+fn signal_at(
+    alloc: Global,
+    pins: &[Pin],
+    before: &[TableSignal],
+    i: usize,
+    value: &Value,
+) -> Result<TableSignal, Flaw>
     requires { length pins.now ≤ 144 }
     ensures { Reads (λ s. s) result (signal pins.now before.now (entry_path Key.Signals i) (view value.now)) }
 {
     check_object(Place::Entry(Spot::Top(Key::Signals), i), value)?;
     let at = Spot::Inner(Key::Signals, i, Key::Name);
-    let name = name_at(before, Place::Member(at), needed(member_of(value, Key::Name), at)?)?;
+    let name = name_at(
+        before,
+        Place::Member(at),
+        needed(member_of(value, Key::Name), at)?,
+    )?;
     let at = Spot::Inner(Key::Signals, i, Key::Use);
     let role = role_at(Place::Member(at), needed(member_of(value, Key::Use), at)?)?;
-    let ip = ip_at(alloc, Spot::Inner(Key::Signals, i, Key::Ip), member_of(value, Key::Ip))?;
-    let drain = drain_at(Spot::Inner(Key::Signals, i, Key::Drain), member_of(value, Key::Drain))?;
+    let ip = ip_at(
+        alloc,
+        Spot::Inner(Key::Signals, i, Key::Ip),
+        member_of(value, Key::Ip),
+    )?;
+    let drain = drain_at(
+        Spot::Inner(Key::Signals, i, Key::Drain),
+        member_of(value, Key::Drain),
+    )?;
     let at = rows_of(alloc, pins, role, i, value)?;
     let name = Text::copy(alloc, name)?;
     Ok(TableSignal {
