@@ -1,4 +1,4 @@
-ghost use Rattle.std.specs.Prelude.{◌≡◌, ◌↔◌, ℕ, ◌+◌, ◌≤◌, Ok, MatchBool, IsNone, IfSome, length};
+ghost use Rattle.std.specs.Prelude.{◌≡◌, ◌↔◌, ◌+◌, ◌≤◌, Ok, MatchBool, IsNone, IfSome, length};
 ghost use Rattle.pin_match.specs.Sets.{fits_in};
 ghost use Rattle.pin_match.specs.Pairs.{IsMatch, IsClosed, given_in};
 ghost use Rattle.pin_match.specs.Assignments.{size_of, IsFull};

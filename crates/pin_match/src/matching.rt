@@ -6,7 +6,7 @@ ghost use Rattle.pin_match.specs.Pairs.{IsPaired, IsMatch, IsOffer, given_in, ga
 use crate::sets::{fits, next_fit};
 use res_base::VarSet;
 
-/// Who has what.
+/// Who has what: the resource of each variable, and the variable of each resource.
 #[derive(Drop)]
 pub(crate) struct Match {
     pub given: [Option<u8>; 192],

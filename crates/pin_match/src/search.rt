@@ -1,5 +1,5 @@
 //! The search along alternating steps for a resource that nobody has.
-ghost use Rattle.std.specs.Prelude.{◌≡◌, ℕ, ◌+◌, ◌<◌, ◌≤◌, Bool, true, false, Some, None, Option, MatchOption, length};
+ghost use Rattle.std.specs.Prelude.{◌≡◌, ◌+◌, ◌<◌, ◌≤◌, true, Some, None, Option, MatchOption, length};
 ghost use Rattle.pin_match.specs.Sets.{fits_in};
 ghost use Rattle.pin_match.specs.Walks.{IsWalk, Scanned, Started, reached_in};
 ghost use Rattle.pin_match.specs.Pairs.{IsMatch, Met, IsClosed, given_in};
