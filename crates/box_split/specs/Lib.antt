@@ -1,3 +1,3 @@
-pub mod Boxes
 pub mod BoxIn
+pub mod Boxes
 pub mod Paths

@@ -1,6 +1,17 @@
 pub mod IocFaults
+pub mod Json
+pub mod Lines
+pub mod Numbers
+pub mod PinText
+pub mod Placeable
+pub mod Placement
+pub mod Project
 pub mod ProjectFaults
+pub mod Signals
 pub mod Steps
+pub mod Table
 pub mod TableFaults
 pub mod UsageFaults
 pub mod Valid
+pub mod Values
+pub mod Words

@@ -3,12 +3,14 @@
 
 mod command;
 mod fault;
+mod given;
 mod line;
 mod project;
 mod table;
 
 pub use command::{Command, Free, Opts};
 pub use fault::{IocFault, ProjectFault, TableFault, UsageFault};
+pub use given::{Flag, Given};
 pub use line::Line;
 pub use project::{Home, Project, Pull, Signal, Speed};
 pub use table::{

@@ -171,9 +171,15 @@ impl Tables {
 
     /// What the table says.
     pub fn parts(&self) -> &TableParts
-        ensures same { result.now ≡ self.now }
-        ensures valid { IsValid self.now }
+        ensures { result.now ≡ self.now }
     {
         &self.parts
+    }
+
+    /// That the table keeps every rule. It stands apart, so that a proof that asks for none carries none.
+    pub fn keeps_rules(&self)
+        ensures { IsValid self.now }
+    {
+        let _ = &self.parts;
     }
 }

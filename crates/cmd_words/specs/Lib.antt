@@ -1,0 +1,1 @@
+pub use Rattle.res_model.specs.Words

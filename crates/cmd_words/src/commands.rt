@@ -1,0 +1,144 @@
+ghost use Rattle.std.specs.Prelude.{◌≡◌, map, string_bytes, IfOk};
+ghost use Rattle.res_model.specs.UsageFaults.{Gives};
+ghost use Rattle.res_model.specs.Words.{pins_takes, tree_takes, resolve_takes, check_takes, case_takes, pins_of, tree_of, resolve_of, check_of, case_of, command_of, IsWithinLimits};
+
+use crate::options::{opts_of, read_options, worker_count};
+use crate::values::number_of;
+use res_base::Text;
+use res_model::{Command, Flag, UsageFault};
+use std::alloc::Global;
+
+const PINS: [Flag; 1] = [Flag::Need];
+
+const TREE: [Flag; 1] = [Flag::Vdd];
+
+const CHECK: [Flag; 6] = [
+    Flag::Vdd,
+    Flag::Need,
+    Flag::Hclk,
+    Flag::Pclk1,
+    Flag::Pclk2,
+    Flag::Free,
+];
+
+const RESOLVE: [Flag; 8] = [
+    Flag::Vdd,
+    Flag::Need,
+    Flag::Hclk,
+    Flag::Pclk1,
+    Flag::Pclk2,
+    Flag::Free,
+    Flag::Workers,
+    Flag::Proof,
+];
+
+const CASE: [Flag; 1] = [Flag::Workers];
+
+fn read_pins(alloc: Global, words: &[String]) -> Result<Command, UsageFault>
+    ensures gives { Gives (λ c. c) result (pins_of (map string_bytes words.now)) }
+    ensures limits { IfOk result IsWithinLimits }
+{
+    let [tables, project, words @ ..] = words else {
+        return Err(UsageFault::Word {
+            word: words.len() + 2,
+        });
+    };
+    let given = read_options(alloc, &PINS, words, 4)?;
+    Ok(Command::Pins {
+        tables: Text::copy(alloc, tables.as_str())?,
+        project: Text::copy(alloc, project.as_str())?,
+        opts: opts_of(given),
+    })
+}
+
+fn read_tree(alloc: Global, words: &[String]) -> Result<Command, UsageFault>
+    ensures gives { Gives (λ c. c) result (tree_of (map string_bytes words.now)) }
+    ensures limits { IfOk result IsWithinLimits }
+{
+    let [tables, project, words @ ..] = words else {
+        return Err(UsageFault::Word {
+            word: words.len() + 2,
+        });
+    };
+    let given = read_options(alloc, &TREE, words, 4)?;
+    Ok(Command::Tree {
+        tables: Text::copy(alloc, tables.as_str())?,
+        project: Text::copy(alloc, project.as_str())?,
+        opts: opts_of(given),
+    })
+}
+
+fn read_resolve(alloc: Global, words: &[String]) -> Result<Command, UsageFault>
+    ensures gives { Gives (λ c. c) result (resolve_of (map string_bytes words.now)) }
+    ensures limits { IfOk result IsWithinLimits }
+{
+    let [tables, project, words @ ..] = words else {
+        return Err(UsageFault::Word {
+            word: words.len() + 2,
+        });
+    };
+    let given = read_options(alloc, &RESOLVE, words, 4)?;
+    let workers = worker_count(&given);
+    let proof = given.proof;
+    Ok(Command::Resolve {
+        tables: Text::copy(alloc, tables.as_str())?,
+        project: Text::copy(alloc, project.as_str())?,
+        opts: opts_of(given),
+        workers,
+        proof,
+    })
+}
+
+fn read_check(alloc: Global, words: &[String]) -> Result<Command, UsageFault>
+    ensures gives { Gives (λ c. c) result (check_of (map string_bytes words.now)) }
+    ensures limits { IfOk result IsWithinLimits }
+{
+    let [tables, project, proof, words @ ..] = words else {
+        return Err(UsageFault::Word {
+            word: words.len() + 2,
+        });
+    };
+    let given = read_options(alloc, &CHECK, words, 5)?;
+    Ok(Command::Check {
+        tables: Text::copy(alloc, tables.as_str())?,
+        project: Text::copy(alloc, project.as_str())?,
+        proof: Text::copy(alloc, proof.as_str())?,
+        opts: opts_of(given),
+    })
+}
+
+fn read_case(alloc: Global, words: &[String]) -> Result<Command, UsageFault>
+    ensures gives { Gives (λ c. c) result (case_of (map string_bytes words.now)) }
+    ensures limits { IfOk result IsWithinLimits }
+{
+    let [number, words @ ..] = words else {
+        return Err(UsageFault::Word { word: 2 });
+    };
+    let Some(number) = number_of(number.as_str()) else {
+        return Err(UsageFault::Word { word: 2 });
+    };
+    let given = read_options(alloc, &CASE, words, 3)?;
+    Ok(Command::Case {
+        number,
+        workers: worker_count(&given),
+    })
+}
+
+/// The command that words ask for, or the first word, from 1, that the grammar does not allow there.
+#[tactic(auto, unfolding(res_model::specs::Words::command_of))]
+pub fn read_words(alloc: Global, words: &[String]) -> Result<Command, UsageFault>
+    ensures gives { Gives (λ c. c) result (command_of (map string_bytes words.now)) }
+    ensures limits { IfOk result IsWithinLimits }
+{
+    let [command, words @ ..] = words else {
+        return Err(UsageFault::Word { word: 1 });
+    };
+    match command.as_str() {
+        "pins" => read_pins(alloc, words),
+        "tree" => read_tree(alloc, words),
+        "resolve" => read_resolve(alloc, words),
+        "check" => read_check(alloc, words),
+        "case" => read_case(alloc, words),
+        _ => Err(UsageFault::Word { word: 1 }),
+    }
+}

@@ -1,0 +1,2 @@
+mod FirstOutside
+mod PinOrder

@@ -1,0 +1,3 @@
+pub use Rattle.res_model.specs.Project
+pub mod Tests
+pub mod Views

@@ -1,0 +1,18 @@
+//! A project: its signals with their homes, the homes of its clock variables and its marks, read from the lines of its text.
+#![tactic(auto)]
+
+mod domains;
+mod homes;
+mod marks;
+mod needs;
+mod part;
+mod pins;
+mod project;
+mod signals;
+mod values;
+
+pub use project::read_project;
+pub use res_model::{Home, Project, ProjectFault, Pull, Signal, Speed};
+
+#[cfg(test)]
+mod tests;

@@ -1,0 +1,68 @@
+ghost use Rattle.std.specs.Prelude.{◌≤◌, length};
+ghost use Rattle.res_model.specs.Project.{project_of};
+ghost use Rattle.res_model.specs.ProjectFaults.{Gives};
+
+use crate::domains::{fixes_clock, fixes_signals, in_domains};
+use crate::homes::{homes_of, hse_of};
+use crate::marks::marks_of;
+use crate::needs::{few, push_needs};
+use crate::part::{kept_of, part_of};
+use crate::pins::pin_lines;
+use crate::signals::push_signals;
+use ioc_text::Ioc;
+use res_base::Items;
+use res_model::{Opts, Project, ProjectFault, TableParts, Tables};
+use std::alloc::Global;
+
+/// Reads the project that the lines tell under a table, or its first refusal.
+///
+/// `clocks` says that clock variables are in play; their homes are then judged where `opts` fixes them.
+pub fn read_project(
+    alloc: Global,
+    t: &Tables,
+    ioc: &Ioc,
+    opts: &Opts,
+    clocks: bool,
+) -> Result<Project, ProjectFault>
+    ensures { Gives (λ project. project) result (project_of t.now ioc.now opts.now clocks) }
+{
+    project_under(alloc, t.parts(), ioc, opts, clocks)
+}
+
+/// The same under what a table says.
+#[tactic(auto, unfolding(res_model::specs::Project::project_of))]
+pub(crate) fn project_under(
+    alloc: Global,
+    t: &TableParts,
+    ioc: &Ioc,
+    opts: &Opts,
+    clocks: bool,
+) -> Result<Project, ProjectFault>
+    requires { length t.now.pins ≤ 144 }
+    ensures { Gives (λ project. project) result (project_of t.now ioc.now opts.now clocks) }
+{
+    part_of(t, ioc)?;
+    let kept = kept_of(ioc)?;
+    let pins = pin_lines(alloc, ioc)?;
+    let mut signals = Vec::new(alloc);
+    push_signals(
+        alloc,
+        t,
+        ioc,
+        kept || fixes_signals(opts.free),
+        &mut signals,
+        pins.as_slice(),
+    )?;
+    push_needs(alloc, t, &mut signals, opts.needs.as_slice())?;
+    few(signals.as_slice())?;
+    let hse_hz = hse_of(t, ioc)?;
+    let clock = homes_of(t, ioc)?;
+    in_domains(t, clocks && fixes_clock(opts.free), &clock)?;
+    let marks = marks_of(alloc, t, ioc, pins.as_slice())?;
+    Ok(Project {
+        signals: Items::of(signals),
+        clock,
+        hse_hz,
+        marks: Items::of(marks),
+    })
+}

@@ -1,0 +1,3 @@
+mod Bytewise
+mod Cuts
+mod Indexes

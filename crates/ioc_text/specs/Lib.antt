@@ -1,0 +1,2 @@
+pub use Rattle.res_model.specs.Lines
+pub mod Index

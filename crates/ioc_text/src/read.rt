@@ -1,0 +1,126 @@
+ghost use Rattle.std.specs.Prelude.{◌≡◌, ◌+◌, ◌<◌, ◌^◌, [], ◌∷◌, Some, length, OnOk};
+ghost use Rattle.res_model.specs.IocFaults.{Gives};
+ghost use Rattle.res_model.specs.Lines.{equals_at, is_quiet, divided, with_key, with_value, undone, line_of, with_line, ioc_of};
+ghost use Rattle.ioc_text.specs.Index.{IsIndex};
+
+use crate::escapes::{equals_at, undo_into};
+use crate::ioc::Ioc;
+use crate::keys::is_named;
+use crate::lines::first_line;
+use res_base::Items;
+use res_model::{IocFault, Line};
+use std::alloc::Global;
+use std::collections::BTreeMap;
+
+/// The line of a named key, whose value is read.
+fn with_value(
+    alloc: Global,
+    number: u32,
+    key: &[u8],
+    bytes: &[u8],
+) -> Result<Option<Line>, IocFault>
+    ensures { Gives (λ line. line) result (with_value number key.now (undone bytes.now)) }
+{
+    let mut value = Vec::with_capacity(alloc, bytes.len())?;
+    if !undo_into(&mut value, bytes)? {
+        return Err(IocFault::BadEscape { line: number });
+    }
+    Ok(Some(Line {
+        number,
+        key: Items::of(Vec::from_slice(alloc, key)?),
+        value: Items::of(value),
+    }))
+}
+
+/// What a line says with this key and value. `scratch` takes the key with its escapes undone.
+fn with_key(
+    alloc: Global,
+    scratch: &mut Vec<u8>,
+    number: u32,
+    key: &[u8],
+    value: &[u8],
+) -> Result<Option<Line>, IocFault>
+    ensures { Gives (λ line. line) result (with_key number (undone key.now) value.now) }
+{
+    if !undo_into(scratch, key)? {
+        return Ok(None);
+    }
+    if !is_named(scratch.as_slice()) {
+        return Ok(None);
+    }
+    with_value(alloc, number, scratch.as_slice(), value)
+}
+
+/// It is empty, or begins with `#`.
+fn is_quiet(bytes: &[u8]) -> bool
+    ensures { result ≡ is_quiet bytes.now }
+{
+    match bytes {
+        [] => true,
+        [b, ..] => *b == b'#',
+    }
+}
+
+/// What the line of this number says by itself.
+#[tactic(auto, unfolding(res_model::specs::Lines::line_of))]
+fn line_of(
+    alloc: Global,
+    scratch: &mut Vec<u8>,
+    number: u32,
+    bytes: &[u8],
+) -> Result<Option<Line>, IocFault>
+    ensures { Gives (λ line. line) result (line_of number bytes.now) }
+{
+    if bytes.len() > 65535 {
+        return Err(IocFault::LongLine { line: number });
+    }
+    if is_quiet(bytes) {
+        return Ok(None);
+    }
+    match equals_at(bytes) {
+        None => Err(IocFault::NoEquals { line: number }),
+        Some(at) => with_key(alloc, scratch, number, &bytes[..at], &bytes[at + 1..]),
+    }
+}
+
+/// Appends a line, unless its key stood before.
+#[tactic(auto, unfolding(res_model::specs::Lines::with_line))]
+fn push_line(
+    alloc: Global,
+    lines: &mut Vec<Line>,
+    places: &mut BTreeMap<Vec<u8>, usize>,
+    line: Line,
+) -> Result<(), IocFault>
+    requires { IsIndex places.old.entries lines.old.items }
+    ensures lines { Gives (λ _. lines.new.items) result (with_line lines.old.items (Some line)) }
+    ensures index { OnOk result (IsIndex places.new.entries lines.new.items) }
+{
+    let key = Vec::from_slice(alloc, line.key.as_slice())?;
+    if places.insert(key, lines.len())?.is_some() {
+        return Err(IocFault::TwiceKey { line: line.number });
+    }
+    lines.push(line)?;
+    Ok(())
+}
+
+/// Reads the lines of a project's text that have a named key, or the fault of its first faulty line.
+#[tactic(auto, unfolding(res_model::specs::Lines::ioc_of, res_model::specs::Lines::with_line))]
+pub fn read_ioc(alloc: Global, text: &[u8]) -> Result<Ioc, IocFault>
+    requires { length text.now < 2 ^ 32 }
+    ensures { Gives (λ ioc. ioc) result (ioc_of text.now) }
+{
+    let mut lines = Vec::new(alloc);
+    let mut places = BTreeMap::new(alloc);
+    let mut scratch = Vec::new(alloc);
+    let mut rest = text;
+    let mut number = 0u32;
+    'read: while !rest.is_empty() {
+        let (bytes, others) = first_line(rest);
+        rest = others;
+        number += 1;
+        if let Some(line) = line_of(alloc, &mut scratch, number, bytes)? {
+            push_line(alloc, &mut lines, &mut places, line)?;
+        }
+    }
+    Ok(Ioc::of(lines, places))
+}

@@ -1,0 +1,10 @@
+use Rattle.std.proofs.Common.{◌≡◌, [], map, drop}
+use Rattle.res_model.specs.Table.{entries_after, flash_range}
+use Rattle.serde_json.specs.View.{view}
+use Rattle.mcu_tables.specs.Places.{path_of}
+use Rattle.mcu_tables.specs.declared.place.Spot.TheVariants.{Top}
+use Rattle.mcu_tables.specs.declared.place.Key.TheVariants.{Flash}
+use Rattle.mcu_tables.proofs.flash.each_range.Given as goal
+
+abbrev pub invariant-loop-value : goal.invariant-loop-value
+invariant-loop-value l = entries_after flash_range (path_of (Top Flash)) l.found.items (map view (drop l.value-index l.values)) ≡ entries_after flash_range (path_of (Top Flash)) [] (map view l.values)

@@ -1,0 +1,10 @@
+use Rattle.std.proofs.Common.{◌≡◌, [], map, drop}
+use Rattle.res_model.specs.Table.{entries_after, pin}
+use Rattle.serde_json.specs.View.{view}
+use Rattle.mcu_tables.specs.Places.{path_of}
+use Rattle.mcu_tables.specs.declared.place.Spot.TheVariants.{Top}
+use Rattle.mcu_tables.specs.declared.place.Key.TheVariants.{Pins}
+use Rattle.mcu_tables.proofs.pins.each_pin.Given as goal
+
+abbrev pub invariant-loop-value : goal.invariant-loop-value
+invariant-loop-value l = entries_after pin (path_of (Top Pins)) l.found.items (map view (drop l.value-index l.values)) ≡ entries_after pin (path_of (Top Pins)) [] (map view l.values)

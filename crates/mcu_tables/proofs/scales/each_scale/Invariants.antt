@@ -1,0 +1,13 @@
+use Rattle.std.proofs.Common.{◌≡◌, [], length, map, drop}
+use Rattle.res_model.specs.Table.{entries_after, scale}
+use Rattle.serde_json.specs.View.{view}
+use Rattle.mcu_tables.specs.Places.{path_of}
+use Rattle.mcu_tables.specs.declared.place.Spot.TheVariants.{Top}
+use Rattle.mcu_tables.specs.declared.place.Key.TheVariants.{Scales}
+use Rattle.mcu_tables.proofs.scales.each_scale.Given as goal
+
+abbrev pub invariant-loop-value : goal.invariant-loop-value
+invariant-loop-value l = record {
+  counted : length l.found.items ≡ l.value-index;
+  read : entries_after (scale l.vos) (path_of (Top Scales)) l.found.items (map view (drop l.value-index l.values)) ≡ entries_after (scale l.vos) (path_of (Top Scales)) [] (map view l.values)
+}

@@ -1,0 +1,107 @@
+ghost use Rattle.std.specs.Prelude.{◌≡◌, ◌≤◌, ◌<◌, List, [], ◌∷◌, codes, map, length, option_map, IfOk};
+ghost use Rattle.res_model.specs.Table.{nested, pair_within, number_within, some_among, one_among, pll_dividers, ahb_dividers, apb_dividers, known_scales, clock, limits};
+ghost use Rattle.serde_json.specs.View.{view};
+ghost use Rattle.mcu_tables.specs.Places.{spelling, path_of, Reads};
+
+use crate::forms::{number_at, pair_at};
+use crate::json::nested;
+use crate::lists::{one_among, some_among};
+use crate::place::{Flaw, Key, Place, Spot};
+use res_base::Items;
+use res_model::{Bounds, Domains};
+use serde_json::Value;
+use std::alloc::Global;
+
+/// The dividers of AHB, those of APB1 and APB2 (RM0090, RCC_CFGR), those of the PLL's output
+/// (RCC_PLLCFGR), and the scales (PWR_CR).
+const AHB: [u16; 9] = [1, 2, 4, 8, 16, 64, 128, 256, 512];
+const APB: [u16; 5] = [1, 2, 4, 8, 16];
+const PLL: [u16; 4] = [2, 4, 6, 8];
+const SCALES: [u16; 2] = [1, 2];
+
+fn clock_pair(root: &Value, key: Key, low: u16, high: u16) -> Result<(u16, u16), Flaw>
+    ensures { Reads (λ p. p) result (nested (pair_within low high) (spelling Key.Clock) (spelling key) (view root.now)) }
+{
+    let value = nested(root, Key::Clock, key)?;
+    let at = Place::Member(Spot::Nested(Key::Clock, key));
+    let (least, greatest) = pair_at(u64::from(low), u64::from(high), at, value)?;
+    Ok((least as u16, greatest as u16))
+}
+
+fn clock_list(alloc: Global, root: &Value, key: Key, these: &[u16]) -> Result<Items<u16>, Flaw>
+    ensures { Reads (λ v. v) result (nested (one_among these.now) (spelling Key.Clock) (spelling key) (view root.now)) }
+{
+    let value = nested(root, Key::Clock, key)?;
+    one_among(alloc, these, Spot::Nested(Key::Clock, key), value)
+}
+
+fn pll_list(alloc: Global, root: &Value) -> Result<Items<u16>, Flaw>
+    ensures { Reads (λ v. v) result (nested (some_among pll_dividers) (codes "clock") (codes "p") (view root.now)) }
+{
+    let value = nested(root, Key::Clock, Key::P)?;
+    some_among(alloc, &PLL, Spot::Nested(Key::Clock, Key::P), value)
+}
+
+/// The domains of the clock variables.
+#[tactic(auto, unfolding(res_model::specs::Table::clock))]
+pub fn clock_of(alloc: Global, root: &Value) -> Result<Domains, Flaw>
+    ensures { Reads (λ c. c) result (clock (view root.now)) }
+{
+    let m = clock_pair(root, Key::M, 2, 63)?;
+    let n = clock_pair(root, Key::N, 50, 432)?;
+    let q = clock_pair(root, Key::Q, 2, 15)?;
+    let p = pll_list(alloc, root)?;
+    let hpre = clock_list(alloc, root, Key::Hpre, &AHB)?;
+    let ppre1 = clock_list(alloc, root, Key::Ppre1, &APB)?;
+    let ppre2 = clock_list(alloc, root, Key::Ppre2, &APB)?;
+    let vos = clock_list(alloc, root, Key::Vos, &SCALES)?;
+    Ok(Domains {
+        hpre,
+        p,
+        m,
+        n,
+        q,
+        ppre1,
+        ppre2,
+        vos,
+    })
+}
+
+fn limit_pair(root: &Value, key: Key, low: u64, high: u64) -> Result<(u64, u64), Flaw>
+    ensures { Reads (λ p. p) result (nested (pair_within low high) (spelling Key.Limits) (spelling key) (view root.now)) }
+{
+    let value = nested(root, Key::Limits, key)?;
+    let at = Place::Member(Spot::Nested(Key::Limits, key));
+    pair_at(low, high, at, value)
+}
+
+fn limit_number(root: &Value, key: Key, high: u64) -> Result<u64, Flaw>
+    ensures { Reads (λ n. n) result (nested (number_within 1 high) (spelling Key.Limits) (spelling key) (view root.now)) }
+{
+    let value = nested(root, Key::Limits, key)?;
+    let at = Place::Member(Spot::Nested(Key::Limits, key));
+    number_at(1, high, at, value)
+}
+
+/// The limits of the clock tree.
+#[tactic(auto, unfolding(res_model::specs::Table::limits))]
+pub fn limits_of(root: &Value) -> Result<Bounds, Flaw>
+    ensures { Reads (λ b. b) result (limits (view root.now)) }
+{
+    let crystal = limit_pair(root, Key::Crystal, 4000000, 26000000)?;
+    let bypass = limit_pair(root, Key::Bypass, 1000000, 50000000)?;
+    let vco_in = limit_pair(root, Key::VcoIn, 1000000, 2000000)?;
+    let vco = limit_pair(root, Key::Vco, 100000000, 432000000)?;
+    let sysclk = limit_number(root, Key::Sysclk, 168000000)?;
+    let pclk1 = limit_number(root, Key::Pclk1, 42000000)?;
+    let pclk2 = limit_number(root, Key::Pclk2, 84000000)?;
+    Ok(Bounds {
+        crystal,
+        bypass,
+        vco_in,
+        vco,
+        sysclk,
+        pclk1,
+        pclk2,
+    })
+}

@@ -1,0 +1,156 @@
+ghost use Rattle.std.specs.Prelude.{◌≡◌, ◌≤◌, ◌<◌, ℕ, List, codes, length, slice_index, IfOk};
+ghost use Rattle.res_base.specs.Lists.{Each};
+ghost use Rattle.res_model.specs.TableFaults.{Gives};
+ghost use Rattle.res_model.specs.Valid.{IsValid};
+ghost use Rattle.res_model.specs.declared.fault.TableFault.TheVariants as fault;
+ghost use Rattle.serde_json.specs.Find.{get};
+ghost use Rattle.res_model.specs.Table.{due, top, number_within, list, distinct_text, text, pin, signal, ip, clock, limits, scales, flash_range, defaults, reset_fault, unless_illegal, legal, table, tables_of};
+ghost use Rattle.serde_json.specs.View.{view};
+ghost use Rattle.mcu_tables.specs.Places.{spelling, spelled, path_of, Reads};
+
+use crate::clock::{clock_of, limits_of};
+use crate::defaults::defaults_of;
+use crate::flash::flash_of;
+use crate::forms::{number_at, text_at};
+use crate::ips::ips_of;
+use crate::json::{member_of, needed, value_of};
+use crate::lists::distinct_texts;
+use crate::pins::pins_of;
+use crate::place::{Flaw, Key, Place, Spot, spelled_fault};
+use crate::reset::reset_fault;
+use crate::scales::scales_of;
+use crate::signals::signals_of;
+use res_base::{Items, Text};
+use res_model::{FlashRange, Ip, Pin, Scale, TableFault, TableParts, TableSignal, Tables};
+use serde_json::Value;
+use std::alloc::Global;
+
+/// A member of the table, which has to be there.
+fn member(root: &Value, key: Key) -> Result<&Value, Flaw>
+    ensures { Reads (λ v. view v.now) result (due (fault.Missing (path_of (Spot.Top key))) (get (spelling key) (view root.now))) }
+{
+    needed(member_of(root, key), Spot::Top(key))
+}
+
+fn version(root: &Value) -> Result<u64, Flaw>
+    ensures { Reads (λ n. n) result (top (number_within 1 1) (codes "version") (view root.now)) }
+{
+    let value = member(root, Key::Version)?;
+    number_at(1, 1, Place::Member(Spot::Top(Key::Version)), value)
+}
+
+fn names(alloc: Global, root: &Value) -> Result<Items<Text>, Flaw>
+    ensures { Reads (λ v. v) result (top (list 1 64 distinct_text) (codes "names") (view root.now)) }
+{
+    let value = member(root, Key::Names)?;
+    distinct_texts(alloc, Spot::Top(Key::Names), value, 1, 64)
+}
+
+fn top_text(alloc: Global, root: &Value, key: Key) -> Result<Text, Flaw>
+    ensures { Reads (λ t. t) result (top text (spelling key) (view root.now)) }
+{
+    let value = member(root, key)?;
+    let text = text_at(Place::Member(Spot::Top(key)), value)?;
+    Ok(Text::copy(alloc, text)?)
+}
+
+fn pins(alloc: Global, root: &Value) -> Result<Items<Pin>, Flaw>
+    ensures reads { Reads (λ v. v) result (top (list 0 144 pin) (codes "pins") (view root.now)) }
+    ensures few { IfOk result (λ v. length v ≤ 144) }
+{
+    let value = member(root, Key::Pins)?;
+    pins_of(alloc, value)
+}
+
+fn signals(alloc: Global, pins: &[Pin], root: &Value) -> Result<Items<TableSignal>, Flaw>
+    requires { length pins.now ≤ 144 }
+    ensures { Reads (λ v. v) result (top (list 0 2000 (signal pins.now)) (codes "signals") (view root.now)) }
+{
+    let value = member(root, Key::Signals)?;
+    signals_of(alloc, pins, value)
+}
+
+fn ips(alloc: Global, root: &Value) -> Result<Items<Ip>, Flaw>
+    ensures { Reads (λ v. v) result (top (list 0 64 ip) (codes "ips") (view root.now)) }
+{
+    let value = member(root, Key::Ips)?;
+    ips_of(alloc, value)
+}
+
+fn scales(alloc: Global, vos: &[u16], root: &Value) -> Result<Items<Scale>, Flaw>
+    requires small { (k : ℕ) → k < length vos.now → slice_index vos.now k < 256 }
+    ensures { Reads (λ v. v) result (top (scales vos.now) (codes "scales") (view root.now)) }
+{
+    let value = member(root, Key::Scales)?;
+    scales_of(alloc, vos, value)
+}
+
+fn flash(alloc: Global, root: &Value) -> Result<Items<FlashRange>, Flaw>
+    ensures { Reads (λ v. v) result (top (list 0 16 flash_range) (codes "flash") (view root.now)) }
+{
+    let value = member(root, Key::Flash)?;
+    flash_of(alloc, value)
+}
+
+#[tactic(auto, unfolding(res_model::specs::Table::legal))]
+fn legal(parts: TableParts) -> Result<TableParts, Flaw>
+    ensures { Reads (λ t. t) result (legal parts) }
+{
+    match reset_fault(&parts) {
+        Some(limit) => Err(Flaw::ResetIllegal(limit)),
+        None => Ok(parts),
+    }
+}
+
+#[tactic(auto, unfolding(res_model::specs::Table::table))]
+fn table(alloc: Global, root: &Value) -> Result<TableParts, Flaw>
+    ensures { Reads (λ t. t) result (table (view root.now)) }
+{
+    version(root)?;
+    let names = names(alloc, root)?;
+    let package = top_text(alloc, root, Key::Package)?;
+    let pins = pins(alloc, root)?;
+    let signals = signals(alloc, pins.as_slice(), root)?;
+    let hse_in = top_text(alloc, root, Key::HseIn)?;
+    let hse_out = top_text(alloc, root, Key::HseOut)?;
+    let ips = ips(alloc, root)?;
+    let clock = clock_of(alloc, root)?;
+    let limits = limits_of(root)?;
+    let scales = scales(alloc, clock.vos.as_slice(), root)?;
+    let flash = flash(alloc, root)?;
+    let (defaults, hse_hz) = defaults_of(&clock, root)?;
+    legal(TableParts {
+        names,
+        package,
+        pins,
+        signals,
+        hse_in,
+        hse_out,
+        ips,
+        clock,
+        limits,
+        scales,
+        flash,
+        defaults,
+        hse_hz,
+    })
+}
+
+#[tactic(auto, unfolding(res_model::specs::Table::tables_of))]
+fn parts_of(alloc: Global, bytes: &[u8]) -> Result<TableParts, Flaw>
+    ensures { Reads (λ t. t) result (tables_of bytes.now) }
+{
+    let root = value_of(alloc, bytes)?;
+    table(alloc, &root)
+}
+
+/// Reads a table from its JSON text. The fault is the first in the order of the table form, with its
+/// path, as in `/clock/hpre/0`.
+pub fn read_tables(alloc: Global, text: &[u8]) -> Result<Tables, TableFault>
+    ensures { Gives (λ t. t) result (tables_of text.now) }
+{
+    match parts_of(alloc, text) {
+        Ok(parts) => Ok(Tables::of(parts)),
+        Err(flaw) => Err(spelled_fault(alloc, flaw)),
+    }
+}

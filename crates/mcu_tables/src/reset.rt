@@ -1,0 +1,51 @@
+ghost use Rattle.std.specs.Prelude.{◌≡◌, ◌≤◌, ◌<◌, List, [], ◌∷◌, length, nat_lt, slice_index};
+ghost use Rattle.std.specs.List.{list_any};
+ghost use Rattle.res_model.specs.Table.{reset_fault, hsi};
+
+use res_model::{FlashRange, Scale, TableParts};
+
+/// The HSI in hertz (RM0090, RCC), which is the system clock after reset.
+const HSI: u64 = 16000000;
+
+fn has_low_scale(scales: &[Scale]) -> bool
+    ensures { result ≡ list_any (λ s. nat_lt s.max hsi) scales.now }
+{
+    scales.iter().any(|scale| scale.max < HSI)
+}
+
+fn first_row(rows: &[u64]) -> u64
+    ensures { result ≡ slice_index rows.now 0 }
+{
+    match rows {
+        [first, ..] => *first,
+        [] => 0,
+    }
+}
+
+fn has_low_row(ranges: &[FlashRange]) -> bool
+    ensures { result ≡ list_any (λ r. nat_lt (slice_index r.rows 0) hsi) ranges.now }
+{
+    ranges
+        .iter()
+        .any(|range| first_row(range.rows.as_slice()) < HSI)
+}
+
+/// The least limit that the state after reset would break.
+#[tactic(auto, unfolding(res_model::specs::Table::reset_fault))]
+pub fn reset_fault(parts: &TableParts) -> Option<u8>
+    ensures { result ≡ reset_fault parts.now }
+{
+    if parts.limits.sysclk < HSI {
+        Some(6)
+    } else if has_low_scale(parts.scales.as_slice()) {
+        Some(7)
+    } else if parts.limits.pclk1 < HSI {
+        Some(8)
+    } else if parts.limits.pclk2 < HSI {
+        Some(9)
+    } else if has_low_row(parts.flash.as_slice()) {
+        Some(13)
+    } else {
+        None
+    }
+}

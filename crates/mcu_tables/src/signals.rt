@@ -1,0 +1,134 @@
+ghost use Rattle.std.specs.Prelude.{◌≡◌, ◌≤◌, ◌<◌, ◌==◌, List, [], ◌∷◌, Some, None, false, map, length, option_map, option_and_then, IfOk, IfSome};
+ghost use Rattle.std.specs.List.{list_any};
+ghost use Rattle.std.specs.Str.{bytes_eq};
+ghost use Rattle.res_model.specs.Table.{counted, list, entries_after, role_of, use_form, signal_name, some_text, signal, flag, may, need};
+ghost use Rattle.serde_json.specs.View.{view};
+ghost use Rattle.mcu_tables.specs.Places.{spelled, path_of, entry_path, Reads};
+
+use crate::forms::{check_object, flag_at, text_at};
+use crate::json::{member_of, needed};
+use crate::lists::counted_at;
+use crate::place::{Flaw, Key, Place, Spot};
+use crate::rows::rows_of;
+use res_base::{Items, Text};
+use res_model::{Pin, Role, TableSignal};
+use serde_json::Value;
+use std::alloc::Global;
+
+#[tactic(auto, unfolding(res_model::specs::Table::role_of))]
+fn role_of(word: &str) -> Option<Role>
+    ensures { result ≡ role_of word.now }
+{
+    if word == "alt" {
+        Some(Role::Alt)
+    } else if word == "input" {
+        Some(Role::Input)
+    } else if word == "output" {
+        Some(Role::Output)
+    } else if word == "analog" {
+        Some(Role::Analog)
+    } else if word == "exti" {
+        Some(Role::Exti)
+    } else if word == "osc" {
+        Some(Role::Osc)
+    } else {
+        None
+    }
+}
+
+#[tactic(auto, unfolding(res_model::specs::Table::use_form))]
+fn role_at(at: Place, value: &Value) -> Result<Role, Flaw>
+    ensures { Reads (λ r. r) result (use_form (spelled at) (view value.now)) }
+{
+    let Some(word) = value.as_str() else {
+        return Err(Flaw::BadField(at));
+    };
+    match role_of(word) {
+        Some(role) => Ok(role),
+        None => Err(Flaw::BadField(at)),
+    }
+}
+
+fn has_signal(before: &[TableSignal], name: &str) -> bool
+    ensures { result ≡ list_any (λ s. bytes_eq s.name name.now) before.now }
+{
+    before.iter().any(|signal| signal.name.as_str() == name)
+}
+
+#[tactic(auto, unfolding(res_model::specs::Table::signal_name))]
+fn name_at<'v>(before: &[TableSignal], at: Place, value: &'v Value) -> Result<&'v str, Flaw>
+    ensures { Reads (λ s. s.now) result (signal_name before.now (spelled at) (view value.now)) }
+{
+    let name = text_at(at, value)?;
+    if name == "-" {
+        return Err(Flaw::BadField(at));
+    }
+    if has_signal(before, name) {
+        return Err(Flaw::Repeated(at));
+    }
+    Ok(name)
+}
+
+#[tactic(auto, unfolding(res_model::specs::Table::some_text))]
+fn ip_at(alloc: Global, at: Spot, found: Option<&Value>) -> Result<Option<Text>, Flaw>
+    ensures { Reads (λ o. o) result (may some_text None (path_of at) (option_map (λ v. view v.now) found.entry)) }
+{
+    match found {
+        Some(value) => Ok(Some(Text::copy(alloc, text_at(Place::Member(at), value)?)?)),
+        None => Ok(None),
+    }
+}
+
+fn drain_at(at: Spot, found: Option<&Value>) -> Result<bool, Flaw>
+    ensures { Reads (λ b. b) result (may flag false (path_of at) (option_map (λ v. view v.now) found.entry)) }
+{
+    match found {
+        Some(value) => flag_at(Place::Member(at), value),
+        None => Ok(false),
+    }
+}
+
+#[tactic(auto, unfolding(res_model::specs::Table::signal))]
+fn signal_at(alloc: Global, pins: &[Pin], before: &[TableSignal], i: usize, value: &Value) -> Result<TableSignal, Flaw>
+    requires { length pins.now ≤ 144 }
+    ensures { Reads (λ s. s) result (signal pins.now before.now (entry_path Key.Signals i) (view value.now)) }
+{
+    check_object(Place::Entry(Spot::Top(Key::Signals), i), value)?;
+    let at = Spot::Inner(Key::Signals, i, Key::Name);
+    let name = name_at(before, Place::Member(at), needed(member_of(value, Key::Name), at)?)?;
+    let at = Spot::Inner(Key::Signals, i, Key::Use);
+    let role = role_at(Place::Member(at), needed(member_of(value, Key::Use), at)?)?;
+    let ip = ip_at(alloc, Spot::Inner(Key::Signals, i, Key::Ip), member_of(value, Key::Ip))?;
+    let drain = drain_at(Spot::Inner(Key::Signals, i, Key::Drain), member_of(value, Key::Drain))?;
+    let at = rows_of(alloc, pins, role, i, value)?;
+    let name = Text::copy(alloc, name)?;
+    Ok(TableSignal {
+        name,
+        role,
+        ip,
+        drain,
+        at,
+    })
+}
+
+fn each_signal(alloc: Global, pins: &[Pin], values: &[Value]) -> Result<Vec<TableSignal>, Flaw>
+    requires { length pins.now ≤ 144 }
+    ensures { Reads (λ v. v.items) result (entries_after (signal pins.now) (path_of (Spot.Top Key.Signals)) [] (map view values.now)) }
+{
+    let mut found = Vec::new(alloc);
+    for value in values {
+        let signal = signal_at(alloc, pins, found.as_slice(), found.len(), value)?;
+        found.push(signal)?;
+    }
+    Ok(found)
+}
+
+/// The signals of the table.
+#[tactic(auto, unfolding(res_model::specs::Table::list))]
+pub fn signals_of(alloc: Global, pins: &[Pin], value: &Value) -> Result<Items<TableSignal>, Flaw>
+    requires { length pins.now ≤ 144 }
+    ensures { Reads (λ v. v) result (list 0 2000 (signal pins.now) (path_of (Spot.Top Key.Signals)) (view value.now)) }
+{
+    let values = counted_at(Spot::Top(Key::Signals), value, 0, 2000)?;
+    Ok(Items::of(each_signal(alloc, pins, values)?))
+}

@@ -1,0 +1,7 @@
+pub mod ClockLaws
+pub mod FlashLaws
+pub mod NumberLaws
+pub mod PinLaws
+pub mod SignalLaws
+pub mod TableLaws
+pub mod TableValid
