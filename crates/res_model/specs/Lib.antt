@@ -1,6 +1,7 @@
 pub mod IocFaults
 pub mod Lines
 pub mod Numbers
+pub mod Placed
 pub mod Project
 pub mod ProjectFaults
 pub mod Steps
