@@ -1,5 +1,5 @@
 -- What every project that was read keeps under its table.
-use Rattle.std.specs.Prelude.{◌≡◌, ℕ, ◌<◌, ◌≤◌, ◌^◌, ◌==◌, ◌&&◌, ◌||◌, ◌⊎◌, List, [], length, Bool, true, false, if◌then◌else◌, Option, Some, None, is_some, IsTrue, IfSome, IsSomeAnd, Result, Ok, codes}
+use Rattle.std.specs.Prelude.{◌≡◌, ℕ, ◌<◌, ◌≤◌, ◌^◌, ◌==◌, ◌&&◌, ◌||◌, ◌⊎◌, List, [], length, Bool, true, false, if◌then◌else◌, Option, Some, None, is_some, IsTrue, IfSome, IsSomeAnd, Ok, codes}
 use Rattle.std.specs.List.{list_any}
 use Rattle.std.specs.Str.{bytes_eq}
 use Rattle.res_base.specs.Lists.{Each}
