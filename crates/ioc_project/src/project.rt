@@ -28,6 +28,7 @@ pub fn read_project(
     ensures project { Gives (λ project. project) result (project_of t.now ioc.now opts.now clocks) }
     ensures keeps { IfOk result (IsRead t.now opts.now clocks) }
 {
+    t.keeps_rules();
     project_under(alloc, t.parts(), ioc, opts, clocks)
 }
 
