@@ -186,5 +186,5 @@ sized t s valid p =
     let found : Option TableSignal = find (λ x. bytes_eq x.name s.name) t.signals in
     let is : MatchOption found (Unit {0}) (IsSignal (length t.pins)) = each_find (IsSignal (length t.pins)) (λ x. bytes_eq x.name s.name) t.signals valid.signals.each in
     let fits : Fits16 (values_from (rows_of found) (own_mode s.name found) s.locked s.home) =
-        from_sized (own_mode s.name found) s.locked (rows_of found) s.home (own_some (length t.pins) s.name found placeable.known is) (rows_few (length t.pins) found is) placeable.placed placeable.stays in
+    from_sized (own_mode s.name found) s.locked (rows_of found) s.home (own_some (length t.pins) s.name found placeable.known is) (rows_few (length t.pins) found is) placeable.placed placeable.stays in
     record { some = fits.some; few = fits.few }
