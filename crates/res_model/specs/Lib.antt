@@ -1,3 +1,4 @@
+pub mod Clock
 pub mod IocFaults
 pub mod Json
 pub mod Lines
