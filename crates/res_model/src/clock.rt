@@ -69,3 +69,10 @@ pub struct ClockBox {
     pub lo: [u16; 10],
     pub hi: [u16; 10],
 }
+
+/// The fractions of a node from its least to its greatest.
+#[derive(Clone, Copy, Debug)]
+pub struct Range {
+    pub least: Ratio,
+    pub most: Ratio,
+}

@@ -10,7 +10,7 @@ mod line;
 mod project;
 mod table;
 
-pub use clock::{ClockBox, ClockChoice, Facts, Nodes, Src};
+pub use clock::{ClockBox, ClockChoice, Facts, Nodes, Range, Src};
 pub use command::{Command, Free, Opts};
 pub use fault::{IocFault, ProjectFault, TableFault, UsageFault};
 pub use given::{Flag, Given};
