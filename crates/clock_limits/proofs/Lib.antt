@@ -1,1 +1,5 @@
 pub mod ChoiceLemmas
+pub mod FairLemmas
+pub mod RoomLemmas
+pub mod SizeLemmas
+pub mod SpreadLemmas

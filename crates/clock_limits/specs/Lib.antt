@@ -1,2 +1,4 @@
 pub mod Fair
 pub mod Numbered
+pub mod Room
+pub mod Runs

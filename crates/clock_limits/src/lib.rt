@@ -1,8 +1,12 @@
 //! The limits of the clock tree: the least that a choice breaks, and the least that no choice in a box can meet.
 #![tactic(auto)]
 
+mod boxes;
 mod choices;
 mod numbers;
+mod ranges;
+mod runs;
 
+pub use boxes::range_broken;
 pub use choices::broken;
 pub use res_model::{ClockBox, ClockChoice, Facts};
