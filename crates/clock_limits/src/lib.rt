@@ -3,10 +3,12 @@
 
 mod boxes;
 mod choices;
+mod laws;
 mod numbers;
 mod ranges;
 mod runs;
 
 pub use boxes::range_broken;
 pub use choices::broken;
+pub use laws::{shown_alone_is_broken, shown_is_broken};
 pub use res_model::{ClockBox, ClockChoice, Facts};

@@ -1,0 +1,12 @@
+//! What limits that are shown for a box say of its choices.
+ghost use Rattle.clock_limits.specs.Laws.{ShownIsBroken, ShownAloneIsBroken};
+
+/// A limit that is shown for a box is broken by each choice in the box, or the choice breaks the wish for HCLK.
+pub fn shown_is_broken()
+    ensures { ShownIsBroken }
+{}
+
+/// A limit whose range does not rest on the wish for HCLK, or any where there is no such wish, is broken by each choice.
+pub fn shown_alone_is_broken()
+    ensures { ShownAloneIsBroken }
+{}
