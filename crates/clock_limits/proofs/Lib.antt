@@ -4,5 +4,6 @@ pub mod FractionLemmas
 pub mod RangeLemmas
 pub mod RoomLemmas
 pub mod ShownLemmas
+pub mod SingleLemmas
 pub mod SizeLemmas
 pub mod SpreadLemmas

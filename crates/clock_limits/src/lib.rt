@@ -10,5 +10,5 @@ mod runs;
 
 pub use boxes::range_broken;
 pub use choices::broken;
-pub use laws::{shown_alone_is_broken, shown_is_broken};
+pub use laws::{one_choice_is_exact, shown_alone_is_broken, shown_is_broken};
 pub use res_model::{ClockBox, ClockChoice, Facts};
