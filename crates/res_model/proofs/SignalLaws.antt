@@ -9,7 +9,7 @@ use Rattle.res_base.specs.Lists.{Each, Member, Pairwise}
 use Rattle.res_base.proofs.ListLemmas.{each_push, each_map}
 use Rattle.res_model.specs.Steps.{◌>>=◌}
 use Rattle.res_model.specs.Json.{word, two, is_object}
-use Rattle.res_model.specs.Table.{below, due, must, fresh, need, may, member, optional, text, object, flag, number_within, list, any_text, place, use_form, pin_named, row, alt_row, pin_row, no_rows, rows, signal_name, some_text, signal, clock48_form, ip_name, ip}
+use Rattle.res_model.specs.Table.{below, due, must, fresh, need, may, member, optional, text, object, flag, number_within, list, any_text, place, use_form, pin_named, row, alt_row, pin_row, no_rows, rows, real_name, signal_name, some_text, signal, clock48_form, ip_name, ip}
 use Rattle.res_model.specs.Valid.{IsText, IsFunction, IsModeOf, HasRowsDue, AreRows, IsSignal, AreSignals, IsIp, AreIps}
 use Rattle.res_model.proofs.TableLaws.{bound, reads, same_ok, due_some, must_holds, fresh_new, need_keeps, may_keeps, differ, none_passes, text_keeps, number_keeps, Kept, list_keeps}
 use Rattle.res_model.proofs.PinLaws.{AreKept, one_more, not_true}
@@ -112,16 +112,26 @@ record IsName (before : List TableSignal) (name : List ℕ) : Type 0 where
   pub named : name ≢ codes "-"
   pub new : Each (λ (s : TableSignal). s.name ≢ name) before
 
+abbrev IsReal : List ℕ → Type 0
+IsReal w = IsText w × (w ≢ codes "-")
+
+real_keeps : (path : List ℕ) (d : Data) (name : List ℕ) → real_name path d ≡ Ok name → IsReal name
+unfolding real_name
+real_keeps path d name h =
+    let w = bound (text path d) _ name h in
+    let n = must_holds (BadField path) (not (bytes_eq w.0 (codes "-"))) w.0 name w.2 in
+    let fine : IsReal w.0 = (text_keeps path d w.0 w.1, differ w.0 (codes "-") (not_true (bytes_eq w.0 (codes "-")) n.0)) in
+    subst IsReal n.1 fine
+
 name_keeps : (before : List TableSignal) (path : List ℕ) (d : Data) (name : List ℕ) → signal_name before path d ≡ Ok name → IsName before name
 unfolding signal_name
 name_keeps before path d name h =
-    let w = bound (text path d) _ name h in
-    let m = bound (must (BadField path) (not (bytes_eq w.0 (codes "-"))) w.0) _ name w.2 in
-    let n = must_holds (BadField path) (not (bytes_eq w.0 (codes "-"))) w.0 m.0 m.1 in
+    let m = bound (real_name path d) _ name h in
     let f = fresh_new path (list_any (λ s. bytes_eq s.name m.0) before) m.0 name m.2 in
+    let r = real_keeps path d m.0 m.1 in
     let fine : IsName before m.0 = record {
-      text = subst IsText n.1 (text_keeps path d w.0 w.1);
-      named = subst (λ (x : List ℕ). x ≢ codes "-") n.1 (differ w.0 (codes "-") (not_true (bytes_eq w.0 (codes "-")) n.0));
+      text = r.0;
+      named = r.1;
       new = each_map (λ s. bytes_eq s.name m.0 ≡ false) (λ (s : TableSignal). s.name ≢ m.0) before (λ s e. differ s.name m.0 e) (none_passes (λ s. bytes_eq s.name m.0) before f.0);
     } in
     subst (IsName before) f.1 fine

@@ -6,7 +6,7 @@ pub mod Limits
 pub mod Lines
 pub mod Numbers
 pub mod PinText
-pub mod Placeable
+pub mod Placed
 pub mod Placement
 pub mod Power
 pub mod Project

@@ -260,12 +260,17 @@ rows pins role.Input path d = optional no_rows [] path (codes "at") d
 rows pins role.Output path d = optional no_rows [] path (codes "at") d
 rows pins role.Exti path d = optional no_rows [] path (codes "at") d
 
--- a text that is not `-`, and that no signal before has
+-- a text that is not `-`
+unfoldable pub real_name : List ℕ → Data → Result (List ℕ) TableFault
+real_name path d = do
+  name ← text path d
+  must (BadField path) (not (bytes_eq name (codes "-"))) name
+
+-- a name that no signal before has
 unfoldable pub signal_name : List TableSignal → List ℕ → Data → Result (List ℕ) TableFault
 signal_name before path d = do
-  name ← text path d
-  named ← must (BadField path) (not (bytes_eq name (codes "-"))) name
-  fresh path (list_any (λ s. bytes_eq s.name named) before) named
+  name ← real_name path d
+  fresh path (list_any (λ s. bytes_eq s.name name) before) name
 
 unfoldable pub some_text : List ℕ → Data → Result (Option (List ℕ)) TableFault
 some_text path d = do
