@@ -4,3 +4,6 @@
 mod walk;
 
 pub use walk::search;
+
+#[cfg(test)]
+mod tests;
