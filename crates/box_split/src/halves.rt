@@ -1,4 +1,4 @@
-ghost use Rattle.std.specs.Prelude.{◌≡◌, ℕ, Some, is_none};
+ghost use Rattle.std.specs.Prelude.{◌≡◌, Some, is_none};
 ghost use Rattle.choice_rank.specs.Choices.{IsChoice};
 ghost use Rattle.box_split.specs.Boxes.{IsBox, is_single, lows, low_of};
 ghost use Rattle.box_split.specs.Paths.{lower, upper, split_from};
@@ -35,6 +35,7 @@ pub fn keep_lower(s: &Shape, b: &mut BoxBuf, variable: u16, after: u16)
     ensures half { box_in s.now b.new ≡ lower (box_in s.now b.old) }
     ensures is_box { IsBox s.now (box_in s.now b.new) }
 {
+    // The shape is read for its bounds alone: its sizes are at most 512.
     let _vars = s.vars();
     b.hi[variable as usize] = after;
 }
@@ -46,6 +47,7 @@ pub fn keep_upper(s: &Shape, b: &mut BoxBuf, variable: u16, after: u16)
     ensures half { box_in s.now b.new ≡ upper (box_in s.now b.old) }
     ensures is_box { IsBox s.now (box_in s.now b.new) }
 {
+    // The shape is read for its bounds alone: its sizes are at most 512.
     let _vars = s.vars();
     b.lo[variable as usize] = after + 1;
 }

@@ -1,5 +1,5 @@
 //! Laws of boxes and paths: functions that do nothing, whose contracts are the laws.
-ghost use Rattle.std.specs.Prelude.{◌≡◌, ℕ, ◌+◌, ◌*◌, ◌^◌, ◌<◌, ◌≤◌, ◌↔◌, List, Option, Some, None, IsSome, true, false, option_and_then};
+ghost use Rattle.std.specs.Prelude.{◌≡◌, ℕ, ◌+◌, ◌*◌, ◌^◌, ◌<◌, ◌≤◌, ◌↔◌, List, Some, None, IsSome, true, false, option_and_then};
 ghost use Rattle.choice_rank.specs.declared.variable.VarShape.{VarShape};
 ghost use Rattle.choice_rank.specs.Choices.{IsChoice, IsShape, HasPositions, rank_of};
 ghost use Rattle.box_split.specs.Boxes.{Run, IsBox, LiesIn, whole, is_single, lows, low_of};

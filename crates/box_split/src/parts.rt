@@ -1,5 +1,5 @@
 //! Reads and writes of the runs in two slices.
-ghost use Rattle.std.specs.Prelude.{◌≡◌, ℕ, ◌+◌, ◌^◌, ◌≤◌, ◌<◌, length, IfSome};
+ghost use Rattle.std.specs.Prelude.{◌≡◌, ◌+◌, ◌^◌, ◌≤◌, ◌<◌, length, IfSome};
 ghost use Rattle.choice_rank.specs.Choices.{HasPositions};
 ghost use Rattle.box_split.specs.Boxes.{whole};
 ghost use Rattle.box_split.specs.Paths.{cut_of, split_from};

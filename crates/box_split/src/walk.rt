@@ -1,4 +1,4 @@
-ghost use Rattle.std.specs.Prelude.{◌≡◌, ℕ, ◌≤◌, ◌↔◌, length, IsTrue, Some, None, IsSome, IfSome, MatchOption};
+ghost use Rattle.std.specs.Prelude.{◌≡◌, ◌≤◌, ◌↔◌, length, IsTrue, Some, None, IsSome, IfSome, MatchOption};
 ghost use Rattle.choice_rank.specs.Choices.{HasPositions};
 ghost use Rattle.box_split.specs.Boxes.{IsBox};
 ghost use Rattle.box_split.specs.Paths.{box_of};

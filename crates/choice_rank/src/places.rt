@@ -1,5 +1,5 @@
 //! Sums and digits over the places of a choice.
-ghost use Rattle.std.specs.Prelude.{◌≡◌, ℕ, ◌%◌, ◌≤◌, length};
+ghost use Rattle.std.specs.Prelude.{◌≡◌, ◌%◌, ◌≤◌, length};
 ghost use Rattle.choice_rank.specs.Choices.{IsChoice, IsShape, choices_of, cost_of, index_of};
 ghost use Rattle.choice_rank.specs.Weights.{weights_of};
 

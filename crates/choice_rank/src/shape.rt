@@ -1,4 +1,4 @@
-ghost use Rattle.std.specs.Prelude.{◌≡◌, ℕ, ◌%◌, ◌≤◌, ◌↔◌, IsTrue, length, IfOk, IfErr, OnOk};
+ghost use Rattle.std.specs.Prelude.{◌≡◌, ◌%◌, ◌≤◌, ◌↔◌, IsTrue, length, IfOk, IfErr, OnOk};
 ghost use Rattle.choice_rank.specs.Choices.{IsChoice, IsNarrow, IsShape, HasPositions, HasSmallSizes, choices_of, cost_of, index_of, rank_of};
 ghost use Rattle.choice_rank.specs.Faults.{IsShapeFault};
 ghost use Rattle.choice_rank.specs.Weights.{weights_of};

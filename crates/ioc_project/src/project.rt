@@ -1,4 +1,5 @@
-ghost use Rattle.std.specs.Prelude.{◌≤◌, length};
+ghost use Rattle.std.specs.Prelude.{◌≤◌, length, IfOk};
+ghost use Rattle.res_model.specs.Placed.{IsRead};
 ghost use Rattle.res_model.specs.Project.{project_of};
 ghost use Rattle.res_model.specs.ProjectFaults.{Gives};
 
@@ -24,8 +25,10 @@ pub fn read_project(
     opts: &Opts,
     clocks: bool,
 ) -> Result<Project, ProjectFault>
-    ensures { Gives (λ project. project) result (project_of t.now ioc.now opts.now clocks) }
+    ensures project { Gives (λ project. project) result (project_of t.now ioc.now opts.now clocks) }
+    ensures keeps { IfOk result (IsRead t.now opts.now clocks) }
 {
+    t.keeps_rules();
     project_under(alloc, t.parts(), ioc, opts, clocks)
 }
 

@@ -1,1 +1,5 @@
+pub mod EntryLemmas
 pub mod JsonLemmas
+pub mod ReadLemmas
+pub mod ScaleLemmas
+pub mod SeenLemmas

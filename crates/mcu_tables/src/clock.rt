@@ -15,8 +15,11 @@ use std::alloc::Global;
 /// The dividers of AHB, those of APB1 and APB2 (RM0090, RCC_CFGR), those of the PLL's output
 /// (RCC_PLLCFGR), and the scales (PWR_CR).
 const AHB: [u16; 9] = [1, 2, 4, 8, 16, 64, 128, 256, 512];
+
 const APB: [u16; 5] = [1, 2, 4, 8, 16];
+
 const PLL: [u16; 4] = [2, 4, 6, 8];
+
 const SCALES: [u16; 2] = [1, 2];
 
 fn clock_pair(root: &Value, key: Key, low: u16, high: u16) -> Result<(u16, u16), Flaw>

@@ -69,7 +69,11 @@ fn among(root: &Value, key: Key, these: &[u16]) -> Result<u64, Flaw>
     ensures { Reads (λ n. n) result (nested (number_among these.now) (spelling Key.Defaults) (spelling key) (view root.now)) }
 {
     let value = nested(root, Key::Defaults, key)?;
-    let n = among_at(these, Place::Member(Spot::Nested(Key::Defaults, key)), value)?;
+    let n = among_at(
+        these,
+        Place::Member(Spot::Nested(Key::Defaults, key)),
+        value,
+    )?;
     Ok(u64::from(n))
 }
 
@@ -77,7 +81,12 @@ fn within(root: &Value, key: Key, low: u64, high: u64) -> Result<u64, Flaw>
     ensures { Reads (λ n. n) result (nested (number_within low high) (spelling Key.Defaults) (spelling key) (view root.now)) }
 {
     let value = nested(root, Key::Defaults, key)?;
-    number_at(low, high, Place::Member(Spot::Nested(Key::Defaults, key)), value)
+    number_at(
+        low,
+        high,
+        Place::Member(Spot::Nested(Key::Defaults, key)),
+        value,
+    )
 }
 
 #[tactic(auto, unfolding(res_model::specs::Table::object_if_there))]

@@ -50,16 +50,32 @@ fn to_at(from: u64, at: Place, value: &Value) -> Result<u64, Flaw>
 }
 
 #[tactic(auto, unfolding(res_model::specs::Table::flash_range))]
-fn range_at(alloc: Global, before: &[FlashRange], i: usize, value: &Value) -> Result<FlashRange, Flaw>
+fn range_at(
+    alloc: Global,
+    before: &[FlashRange],
+    i: usize,
+    value: &Value,
+) -> Result<FlashRange, Flaw>
     ensures { Reads (λ r. r) result (flash_range before.now (entry_path Key.Flash i) (view value.now)) }
 {
     check_object(Place::Entry(Spot::Top(Key::Flash), i), value)?;
     let at = Spot::Inner(Key::Flash, i, Key::From);
-    let from = from_at(before, Place::Member(at), needed(member_of(value, Key::From), at)?)?;
+    let from = from_at(
+        before,
+        Place::Member(at),
+        needed(member_of(value, Key::From), at)?,
+    )?;
     let at = Spot::Inner(Key::Flash, i, Key::To);
-    let to = to_at(from, Place::Member(at), needed(member_of(value, Key::To), at)?)?;
+    let to = to_at(
+        from,
+        Place::Member(at),
+        needed(member_of(value, Key::To), at)?,
+    )?;
     let at = Spot::Inner(Key::Flash, i, Key::Prefetch);
-    let prefetch = flag_at(Place::Member(at), needed(member_of(value, Key::Prefetch), at)?)?;
+    let prefetch = flag_at(
+        Place::Member(at),
+        needed(member_of(value, Key::Prefetch), at)?,
+    )?;
     let at = Spot::Inner(Key::Flash, i, Key::Rows);
     let rows = ascending(alloc, at, needed(member_of(value, Key::Rows), at)?, 1, 8)?;
     Ok(FlashRange {

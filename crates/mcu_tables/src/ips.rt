@@ -84,11 +84,25 @@ fn ip_of(alloc: Global, before: &[Ip], i: usize, value: &Value) -> Result<Ip, Fl
 {
     check_object(Place::Entry(Spot::Top(Key::Ips), i), value)?;
     let at = Spot::Inner(Key::Ips, i, Key::Name);
-    let name = name_at(before, Place::Member(at), needed(member_of(value, Key::Name), at)?)?;
+    let name = name_at(
+        before,
+        Place::Member(at),
+        needed(member_of(value, Key::Name), at)?,
+    )?;
     let at = Spot::Inner(Key::Ips, i, Key::Clock48);
-    let clock48 = clock48_at(Place::Member(at), needed(member_of(value, Key::Clock48), at)?)?;
-    let floor = floor_at(Spot::Inner(Key::Ips, i, Key::Floor), member_of(value, Key::Floor))?;
-    let marks = marks_at(alloc, Spot::Inner(Key::Ips, i, Key::Marks), member_of(value, Key::Marks))?;
+    let clock48 = clock48_at(
+        Place::Member(at),
+        needed(member_of(value, Key::Clock48), at)?,
+    )?;
+    let floor = floor_at(
+        Spot::Inner(Key::Ips, i, Key::Floor),
+        member_of(value, Key::Floor),
+    )?;
+    let marks = marks_at(
+        alloc,
+        Spot::Inner(Key::Ips, i, Key::Marks),
+        member_of(value, Key::Marks),
+    )?;
     let name = Text::copy(alloc, name)?;
     Ok(Ip {
         name,

@@ -15,6 +15,8 @@ mod reset;
 mod rows;
 mod scales;
 mod signals;
+#[cfg(test)]
+mod tests;
 
 pub use read::read_tables;
 pub use res_model::{

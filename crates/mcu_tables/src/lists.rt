@@ -60,7 +60,13 @@ fn each_distinct(alloc: Global, at: Spot, values: &[Value]) -> Result<Vec<Text>,
 
 /// A list of distinct texts.
 #[tactic(auto, unfolding(res_model::specs::Table::list))]
-pub fn distinct_texts(alloc: Global, at: Spot, value: &Value, least: usize, most: usize) -> Result<Items<Text>, Flaw>
+pub fn distinct_texts(
+    alloc: Global,
+    at: Spot,
+    value: &Value,
+    least: usize,
+    most: usize,
+) -> Result<Items<Text>, Flaw>
     ensures { Reads (λ v. v) result (list least most distinct_text (path_of at) (view value.now)) }
 {
     let values = counted_at(at, value, least, most)?;
@@ -124,7 +130,13 @@ fn each_above(alloc: Global, at: Spot, values: &[Value]) -> Result<Vec<u64>, Fla
 
 /// An ascending list of numbers.
 #[tactic(auto, unfolding(res_model::specs::Table::list))]
-pub fn ascending(alloc: Global, at: Spot, value: &Value, least: usize, most: usize) -> Result<Items<u64>, Flaw>
+pub fn ascending(
+    alloc: Global,
+    at: Spot,
+    value: &Value,
+    least: usize,
+    most: usize,
+) -> Result<Items<u64>, Flaw>
     ensures { Reads (λ v. v) result (list least most above (path_of at) (view value.now)) }
 {
     let values = counted_at(at, value, least, most)?;
@@ -157,7 +169,12 @@ fn each_among(alloc: Global, these: &[u16], at: Spot, values: &[Value]) -> Resul
 {
     let mut found = Vec::new(alloc);
     for value in values {
-        let n = next_at(these, found.as_slice(), Place::Entry(at, found.len()), value)?;
+        let n = next_at(
+            these,
+            found.as_slice(),
+            Place::Entry(at, found.len()),
+            value,
+        )?;
         found.push(n)?;
     }
     Ok(found)

@@ -84,7 +84,8 @@ fn pin_at(alloc: Global, before: &[Pin], at: Place, value: &Value) -> Result<Pin
 }
 
 fn each_pin(alloc: Global, values: &[Value]) -> Result<Vec<Pin>, Flaw>
-    ensures { Reads (λ v. v.items) result (entries_after pin (path_of (Spot.Top Key.Pins)) [] (map view values.now)) }
+    ensures reads { Reads (λ v. v.items) result (entries_after pin (path_of (Spot.Top Key.Pins)) [] (map view values.now)) }
+    ensures long { IfOk result (λ v. length v.items ≡ length values.now) }
 {
     let mut found = Vec::new(alloc);
     for value in values {
@@ -98,7 +99,8 @@ fn each_pin(alloc: Global, values: &[Value]) -> Result<Vec<Pin>, Flaw>
 /// The pins of the table.
 #[tactic(auto, unfolding(res_model::specs::Table::list))]
 pub fn pins_of(alloc: Global, value: &Value) -> Result<Items<Pin>, Flaw>
-    ensures { Reads (λ v. v) result (list 0 144 pin (path_of (Spot.Top Key.Pins)) (view value.now)) }
+    ensures reads { Reads (λ v. v) result (list 0 144 pin (path_of (Spot.Top Key.Pins)) (view value.now)) }
+    ensures few { IfOk result (λ v. length v ≤ 144) }
 {
     let values = counted_at(Spot::Top(Key::Pins), value, 0, 144)?;
     Ok(Items::of(each_pin(alloc, values)?))

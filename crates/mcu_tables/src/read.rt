@@ -4,7 +4,7 @@ ghost use Rattle.res_model.specs.TableFaults.{Gives};
 ghost use Rattle.res_model.specs.Valid.{IsValid};
 ghost use Rattle.res_model.specs.declared.fault.TableFault.TheVariants as fault;
 ghost use Rattle.serde_json.specs.Find.{get};
-ghost use Rattle.res_model.specs.Table.{due, top, number_within, list, distinct_text, text, pin, signal, ip, clock, limits, scales, flash_range, defaults, reset_fault, unless_illegal, legal, table, tables_of};
+ghost use Rattle.res_model.specs.Table.{due, top, number_within, list, distinct_text, text, pin, signal, ip, clock, limits, scales, flash_range, defaults, reset_fault, unless_illegal, legal, hse_names, supply, table, tables_of};
 ghost use Rattle.serde_json.specs.View.{view};
 ghost use Rattle.mcu_tables.specs.Places.{spelling, spelled, path_of, Reads};
 
@@ -77,6 +77,16 @@ fn ips(alloc: Global, root: &Value) -> Result<Items<Ip>, Flaw>
     ips_of(alloc, value)
 }
 
+/// The names of the signals of the oscillator's pins.
+#[tactic(auto, unfolding(res_model::specs::Table::hse_names))]
+fn hse_names(alloc: Global, root: &Value) -> Result<(Text, Text), Flaw>
+    ensures { Reads (λ p. p) result (hse_names (view root.now)) }
+{
+    let hse_in = top_text(alloc, root, Key::HseIn)?;
+    let hse_out = top_text(alloc, root, Key::HseOut)?;
+    Ok((hse_in, hse_out))
+}
+
 fn scales(alloc: Global, vos: &[u16], root: &Value) -> Result<Items<Scale>, Flaw>
     requires small { (k : ℕ) → k < length vos.now → slice_index vos.now k < 256 }
     ensures { Reads (λ v. v) result (top (scales vos.now) (codes "scales") (view root.now)) }
@@ -90,6 +100,21 @@ fn flash(alloc: Global, root: &Value) -> Result<Items<FlashRange>, Flaw>
 {
     let value = member(root, Key::Flash)?;
     flash_of(alloc, value)
+}
+
+/// What the supply allows: the scales and the flash ranges.
+#[tactic(auto, unfolding(res_model::specs::Table::supply))]
+fn supply(
+    alloc: Global,
+    vos: &[u16],
+    root: &Value,
+) -> Result<(Items<Scale>, Items<FlashRange>), Flaw>
+    requires small { (k : ℕ) → k < length vos.now → slice_index vos.now k < 256 }
+    ensures { Reads (λ p. p) result (supply vos.now (view root.now)) }
+{
+    let scales = scales(alloc, vos, root)?;
+    let flash = flash(alloc, root)?;
+    Ok((scales, flash))
 }
 
 #[tactic(auto, unfolding(res_model::specs::Table::legal))]
@@ -111,13 +136,11 @@ fn table(alloc: Global, root: &Value) -> Result<TableParts, Flaw>
     let package = top_text(alloc, root, Key::Package)?;
     let pins = pins(alloc, root)?;
     let signals = signals(alloc, pins.as_slice(), root)?;
-    let hse_in = top_text(alloc, root, Key::HseIn)?;
-    let hse_out = top_text(alloc, root, Key::HseOut)?;
+    let (hse_in, hse_out) = hse_names(alloc, root)?;
     let ips = ips(alloc, root)?;
     let clock = clock_of(alloc, root)?;
     let limits = limits_of(root)?;
-    let scales = scales(alloc, clock.vos.as_slice(), root)?;
-    let flash = flash(alloc, root)?;
+    let (scales, flash) = supply(alloc, clock.vos.as_slice(), root)?;
     let (defaults, hse_hz) = defaults_of(&clock, root)?;
     legal(TableParts {
         names,

@@ -61,7 +61,12 @@ fn alt_row(pins: &[Pin], before: &[PinUse], at: Place, value: &Value) -> Result<
     row_at(before, at, Some(pin), Mode::Alt(function as u8))
 }
 
-fn each_alt_row(alloc: Global, pins: &[Pin], at: Spot, values: &[Value]) -> Result<Vec<PinUse>, Flaw>
+fn each_alt_row(
+    alloc: Global,
+    pins: &[Pin],
+    at: Spot,
+    values: &[Value],
+) -> Result<Vec<PinUse>, Flaw>
     requires { length pins.now ≤ 144 }
     ensures { Reads (λ v. v.items) result (entries_after (alt_row pins.now) (path_of at) [] (map view values.now)) }
 {
@@ -83,27 +88,52 @@ fn alt_rows(alloc: Global, pins: &[Pin], at: Spot, value: &Value) -> Result<Item
 }
 
 #[tactic(auto, unfolding(res_model::specs::Table::pin_row))]
-fn pin_row(pins: &[Pin], mode: Mode, before: &[PinUse], at: Place, value: &Value) -> Result<PinUse, Flaw>
+fn pin_row(
+    pins: &[Pin],
+    mode: Mode,
+    before: &[PinUse],
+    at: Place,
+    value: &Value,
+) -> Result<PinUse, Flaw>
     requires { length pins.now ≤ 144 }
     ensures { Reads (λ u. u) result (pin_row pins.now mode before.now (spelled at) (view value.now)) }
 {
     row_at(before, at, pin_named(pins, value), mode)
 }
 
-fn each_pin_row(alloc: Global, pins: &[Pin], mode: Mode, at: Spot, values: &[Value]) -> Result<Vec<PinUse>, Flaw>
+fn each_pin_row(
+    alloc: Global,
+    pins: &[Pin],
+    mode: Mode,
+    at: Spot,
+    values: &[Value],
+) -> Result<Vec<PinUse>, Flaw>
     requires { length pins.now ≤ 144 }
     ensures { Reads (λ v. v.items) result (entries_after (pin_row pins.now mode) (path_of at) [] (map view values.now)) }
 {
     let mut found = Vec::new(alloc);
     for value in values {
-        let row = pin_row(pins, mode, found.as_slice(), Place::Entry(at, found.len()), value)?;
+        let row = pin_row(
+            pins,
+            mode,
+            found.as_slice(),
+            Place::Entry(at, found.len()),
+            value,
+        )?;
         found.push(row)?;
     }
     Ok(found)
 }
 
 #[tactic(auto, unfolding(res_model::specs::Table::list))]
-fn pin_rows(alloc: Global, pins: &[Pin], mode: Mode, least: usize, at: Spot, value: &Value) -> Result<Items<PinUse>, Flaw>
+fn pin_rows(
+    alloc: Global,
+    pins: &[Pin],
+    mode: Mode,
+    least: usize,
+    at: Spot,
+    value: &Value,
+) -> Result<Items<PinUse>, Flaw>
     requires { length pins.now ≤ 144 }
     ensures { Reads (λ v. v) result (list least 16 (pin_row pins.now mode) (path_of at) (view value.now)) }
 {
@@ -111,7 +141,12 @@ fn pin_rows(alloc: Global, pins: &[Pin], mode: Mode, least: usize, at: Spot, val
     Ok(Items::of(each_pin_row(alloc, pins, mode, at, values)?))
 }
 
-fn analog_rows(alloc: Global, pins: &[Pin], at: Spot, found: Option<&Value>) -> Result<Items<PinUse>, Flaw>
+fn analog_rows(
+    alloc: Global,
+    pins: &[Pin],
+    at: Spot,
+    found: Option<&Value>,
+) -> Result<Items<PinUse>, Flaw>
     requires { length pins.now ≤ 144 }
     ensures { Reads (λ v. v) result (may (list 0 16 (pin_row pins.now Mode.Analog)) [] (path_of at) (option_map (λ v. view v.now) found.entry)) }
 {
@@ -133,7 +168,13 @@ fn no_rows(alloc: Global, at: Spot, found: Option<&Value>) -> Result<Items<PinUs
 
 /// The rows of signal i, by its role.
 #[tactic(auto, unfolding(res_model::specs::Table::rows))]
-pub fn rows_of(alloc: Global, pins: &[Pin], role: Role, i: usize, value: &Value) -> Result<Items<PinUse>, Flaw>
+pub fn rows_of(
+    alloc: Global,
+    pins: &[Pin],
+    role: Role,
+    i: usize,
+    value: &Value,
+) -> Result<Items<PinUse>, Flaw>
     requires { length pins.now ≤ 144 }
     ensures { Reads (λ v. v) result (rows pins.now role (entry_path Key.Signals i) (view value.now)) }
 {

@@ -23,9 +23,19 @@ fn scale_at(vos: &[u16], before: &[Scale], value: &Value) -> Result<Scale, Flaw>
     check_object(Place::Entry(Spot::Top(Key::Scales), i), value)?;
     let due = u64::from(vos[i]);
     let at = Spot::Inner(Key::Scales, i, Key::Vos);
-    let number = number_at(due, due, Place::Member(at), needed(member_of(value, Key::Vos), at)?)?;
+    let number = number_at(
+        due,
+        due,
+        Place::Member(at),
+        needed(member_of(value, Key::Vos), at)?,
+    )?;
     let at = Spot::Inner(Key::Scales, i, Key::Max);
-    let max = number_at(1, 168000000, Place::Member(at), needed(member_of(value, Key::Max), at)?)?;
+    let max = number_at(
+        1,
+        168000000,
+        Place::Member(at),
+        needed(member_of(value, Key::Max), at)?,
+    )?;
     Ok(Scale {
         vos: number as u8,
         max,

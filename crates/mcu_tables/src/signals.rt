@@ -1,7 +1,8 @@
-ghost use Rattle.std.specs.Prelude.{◌≡◌, ◌≤◌, ◌<◌, ◌==◌, List, [], ◌∷◌, Some, None, false, map, length, option_map, option_and_then, IfOk, IfSome};
+ghost use Rattle.std.specs.Prelude.{◌≡◌, ◌≤◌, ◌<◌, ◌==◌, List, [], ◌∷◌, Some, None, false, map, length, option_map, option_and_then, IfOk, IfSome, codes};
 ghost use Rattle.std.specs.List.{list_any};
 ghost use Rattle.std.specs.Str.{bytes_eq};
-ghost use Rattle.res_model.specs.Table.{counted, list, entries_after, role_of, use_form, signal_name, some_text, signal, flag, may, need};
+ghost use Rattle.res_model.specs.Table.{counted, list, entries_after, role_of, use_form, real_name, signal_name, some_text, signal, flag, may, need, member};
+ghost use Rattle.mcu_tables.specs.Seen.{AreSeen};
 ghost use Rattle.serde_json.specs.View.{view};
 ghost use Rattle.mcu_tables.specs.Places.{spelled, path_of, entry_path, Reads};
 
@@ -14,6 +15,7 @@ use res_base::{Items, Text};
 use res_model::{Pin, Role, TableSignal};
 use serde_json::Value;
 use std::alloc::Global;
+use std::collections::BTreeMap;
 
 #[tactic(auto, unfolding(res_model::specs::Table::role_of))]
 fn role_of(word: &str) -> Option<Role>
@@ -49,24 +51,36 @@ fn role_at(at: Place, value: &Value) -> Result<Role, Flaw>
     }
 }
 
-fn has_signal(before: &[TableSignal], name: &str) -> bool
-    ensures { result ≡ list_any (λ s. bytes_eq s.name name.now) before.now }
-{
-    before.iter().any(|signal| signal.name.as_str() == name)
-}
-
-#[tactic(auto, unfolding(res_model::specs::Table::signal_name))]
-fn name_at<'v>(before: &[TableSignal], at: Place, value: &'v Value) -> Result<&'v str, Flaw>
-    ensures { Reads (λ s. s.now) result (signal_name before.now (spelled at) (view value.now)) }
+#[tactic(auto, unfolding(res_model::specs::Table::real_name))]
+fn real_name_at<'v>(at: Place, value: &'v Value) -> Result<&'v str, Flaw>
+    ensures { Reads (λ s. s.now) result (real_name (spelled at) (view value.now)) }
 {
     let name = text_at(at, value)?;
     if name == "-" {
-        return Err(Flaw::BadField(at));
+        Err(Flaw::BadField(at))
+    } else {
+        Ok(name)
     }
-    if has_signal(before, name) {
-        return Err(Flaw::Repeated(at));
+}
+
+/// The name of the next signal; `seen` holds the names of those before.
+#[tactic(auto, unfolding(res_model::specs::Table::signal_name))]
+fn name_of<'v>(
+    before: &[TableSignal],
+    seen: &BTreeMap<String, ()>,
+    value: &'v Value,
+) -> Result<&'v str, Flaw>
+    requires { AreSeen before.now seen.now }
+    ensures { Reads (λ s. s.now) result (member (signal_name before.now) (entry_path Key.Signals (length before.now)) (codes "name") (view value.now)) }
+{
+    let at = Spot::Inner(Key::Signals, before.len(), Key::Name);
+    let value = needed(member_of(value, Key::Name), at)?;
+    let name = real_name_at(Place::Member(at), value)?;
+    if seen.contains_key(name) {
+        Err(Flaw::Repeated(Place::Member(at)))
+    } else {
+        Ok(name)
     }
-    Ok(name)
 }
 
 #[tactic(auto, unfolding(res_model::specs::Table::some_text))]
@@ -89,17 +103,31 @@ fn drain_at(at: Spot, found: Option<&Value>) -> Result<bool, Flaw>
 }
 
 #[tactic(auto, unfolding(res_model::specs::Table::signal))]
-fn signal_at(alloc: Global, pins: &[Pin], before: &[TableSignal], i: usize, value: &Value) -> Result<TableSignal, Flaw>
-    requires { length pins.now ≤ 144 }
-    ensures { Reads (λ s. s) result (signal pins.now before.now (entry_path Key.Signals i) (view value.now)) }
+fn signal_at(
+    alloc: Global,
+    pins: &[Pin],
+    before: &[TableSignal],
+    seen: &BTreeMap<String, ()>,
+    value: &Value,
+) -> Result<TableSignal, Flaw>
+    requires few { length pins.now ≤ 144 }
+    requires seen { AreSeen before.now seen.now }
+    ensures { Reads (λ s. s) result (signal pins.now before.now (entry_path Key.Signals (length before.now)) (view value.now)) }
 {
+    let i = before.len();
     check_object(Place::Entry(Spot::Top(Key::Signals), i), value)?;
-    let at = Spot::Inner(Key::Signals, i, Key::Name);
-    let name = name_at(before, Place::Member(at), needed(member_of(value, Key::Name), at)?)?;
+    let name = name_of(before, seen, value)?;
     let at = Spot::Inner(Key::Signals, i, Key::Use);
     let role = role_at(Place::Member(at), needed(member_of(value, Key::Use), at)?)?;
-    let ip = ip_at(alloc, Spot::Inner(Key::Signals, i, Key::Ip), member_of(value, Key::Ip))?;
-    let drain = drain_at(Spot::Inner(Key::Signals, i, Key::Drain), member_of(value, Key::Drain))?;
+    let ip = ip_at(
+        alloc,
+        Spot::Inner(Key::Signals, i, Key::Ip),
+        member_of(value, Key::Ip),
+    )?;
+    let drain = drain_at(
+        Spot::Inner(Key::Signals, i, Key::Drain),
+        member_of(value, Key::Drain),
+    )?;
     let at = rows_of(alloc, pins, role, i, value)?;
     let name = Text::copy(alloc, name)?;
     Ok(TableSignal {
@@ -116,8 +144,10 @@ fn each_signal(alloc: Global, pins: &[Pin], values: &[Value]) -> Result<Vec<Tabl
     ensures { Reads (λ v. v.items) result (entries_after (signal pins.now) (path_of (Spot.Top Key.Signals)) [] (map view values.now)) }
 {
     let mut found = Vec::new(alloc);
+    let mut seen = BTreeMap::new(alloc);
     for value in values {
-        let signal = signal_at(alloc, pins, found.as_slice(), found.len(), value)?;
+        let signal = signal_at(alloc, pins, found.as_slice(), &seen, value)?;
+        seen.insert(String::from_str(alloc, signal.name.as_str())?, ())?;
         found.push(signal)?;
     }
     Ok(found)

@@ -2,6 +2,7 @@
 use Rattle.std.specs.Prelude.{◌≡◌, ℕ, ◌≤◌, ◌<◌, Bool, true, Option, Some, None, is_some}
 use Rattle.res_base.specs.Sums.{sum_below, one_if}
 
+-- each of the n variables that has a resource has one of the m, in its set, and no two the same
 pub record IsAssignment (n m : ℕ) (fits : ℕ → ℕ → Bool) (f : ℕ → Option ℕ) : Type 0 where
   pub in_set : (v r : ℕ) → v < n → f v ≡ Some r → fits v r ≡ true
   pub in_range : (v r : ℕ) → v < n → f v ≡ Some r → r < m
@@ -11,6 +12,7 @@ pub record IsAssignment (n m : ℕ) (fits : ℕ → ℕ → Bool) (f : ℕ → O
 abbrev pub size_of : ℕ → (ℕ → Option ℕ) → ℕ
 size_of n f = sum_below n (λ v. one_if (is_some (f v)))
 
+-- no assignment serves more variables
 pub record IsLargest (n m : ℕ) (fits : ℕ → ℕ → Bool) (f : ℕ → Option ℕ) : Type 0 where
   pub is_assignment : IsAssignment n m fits f
   pub largest : (g : ℕ → Option ℕ) → IsAssignment n m fits g → size_of n g ≤ size_of n f

@@ -5,9 +5,11 @@ use Rattle.pin_match.specs.declared.walk.Walk.{Walk}
 use Rattle.pin_match.specs.Walks.{IsWalk, reached_in, place_in}
 use Rattle.pin_match.specs.Assignments.{IsReached, size_of}
 
+-- what a variable has
 abbrev pub given_in : Match → ℕ → Option ℕ
 given_in a v = slice_index_or a.given v None
 
+-- who has a resource
 abbrev pub owner_in : Match → ℕ → Option ℕ
 owner_in a r = slice_index_or a.owner r None
 
@@ -20,10 +22,12 @@ pub record IsPaired (n m : ℕ) (a : Match) : Type 0 where
   pub given : (v r : ℕ) → v < n → given_in a v ≡ Some r → (r < m) × (owner_in a r ≡ Some v)
   pub owned : (v r : ℕ) → r < m → owner_in a r ≡ Some v → (v < n) × (given_in a v ≡ Some r)
 
+-- and each variable has what is in its set
 pub record IsMatch (n m : ℕ) (fits : ℕ → ℕ → Bool) (a : Match) : Type 0 where
   pub paired : IsPaired n m a
   pub in_set : (v r : ℕ) → v < n → given_in a v ≡ Some r → fits v r ≡ true
 
+-- the owners after a resource is let go
 abbrev pub released : List (Option ℕ) → Option ℕ → List (Option ℕ)
 released owner None = owner
 released owner (Some s) = slice_set owner s None

@@ -1,12 +1,10 @@
 -- The sets of resources of the variables.
-use Rattle.std.specs.Prelude.{ℕ, Bool, List, [], slice_index_or}
+use Rattle.std.specs.Prelude.{ℕ, zero, suc, Bool, false, List, [], ◌∷◌}
 use Rattle.res_base.specs.declared.var_set.VarSet.{VarSet}
 use Rattle.res_base.specs.VarSet.{in_set}
 
--- what an element past the end reads as
-abbrev pub nothing : VarSet
-nothing = record { words = [] }
-
--- whether the resource is in the variable's set
+-- whether a resource is in the set of a variable
 unfoldable pub fits_in : List VarSet → ℕ → ℕ → Bool
-fits_in sets v r = in_set (slice_index_or sets v nothing) r
+fits_in [] v = λ r. false
+fits_in (s ∷ ss) zero = in_set s
+fits_in (s ∷ ss) (suc v) = fits_in ss v

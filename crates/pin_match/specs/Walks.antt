@@ -5,6 +5,7 @@ use Rattle.res_base.specs.VarSet.{in_set}
 use Rattle.pin_match.specs.declared.walk.Walk.{Walk}
 use Rattle.res_base.specs.Sums.{sum_below, one_if}
 
+-- what the walk says of a variable: whether it is reached, where it stands, and from which it was reached
 abbrev pub reached_in : Walk → ℕ → Bool
 reached_in w v = slice_index_or w.reached v false
 
@@ -14,12 +15,14 @@ place_in w v = slice_index w.place v
 abbrev pub from_in : Walk → ℕ → ℕ
 from_in w v = slice_index w.from v
 
+-- a place for each of 192 variables
 pub record Long (w : Walk) : Type 0 where
   pub queue : length w.queue ≡ 192
   pub reached : length w.reached ≡ 192
   pub place : length w.place ≡ 192
   pub from : length w.from ≡ 192
 
+-- each reached variable is in the queue, at its place, and was reached from an earlier one whose set has its resource
 pub record IsWalk (n : ℕ) (fits : ℕ → ℕ → Bool) (f : ℕ → Option ℕ) (w : Walk) : Type 0 where
   pub few : n ≤ 192
   pub long : Long w

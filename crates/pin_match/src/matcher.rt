@@ -1,4 +1,4 @@
-ghost use Rattle.std.specs.Prelude.{◌≡◌, ◌↔◌, ℕ, ◌+◌, ◌≤◌, Ok, MatchBool, IsNone, IfSome, length};
+ghost use Rattle.std.specs.Prelude.{◌≡◌, ◌↔◌, ◌+◌, ◌≤◌, Ok, MatchBool, IsNone, IfSome, length};
 ghost use Rattle.pin_match.specs.Sets.{fits_in};
 ghost use Rattle.pin_match.specs.Pairs.{IsMatch, IsClosed, given_in};
 ghost use Rattle.pin_match.specs.Assignments.{size_of, IsFull};
@@ -60,21 +60,14 @@ impl Matcher {
         ensures none { IsNone result ↔ IsFull self.old.variables self.old.resources (fits_in sets.now) }
         ensures left_out { IfSome result (IsHall self.old.variables self.old.resources (fits_in sets.now)) }
     {
-        let variables = self.variables;
         let resources = self.resources;
-        keep(&mut self.matching, sets, variables, resources);
-        take_free(&mut self.matching, sets, variables, resources);
-        'grow: while improve(
-            &mut self.matching,
-            sets,
-            variables,
-            resources,
-            &mut self.walk,
-        ) {}
+        keep(&mut self.matching, sets, resources);
+        take_free(&mut self.matching, sets, resources);
+        'grow: while improve(&mut self.matching, sets, resources, &mut self.walk) {}
         if self.walk.len == 0 {
             return None;
         }
-        Some(reached_set(&self.walk, variables))
+        Some(reached_set(&self.walk, sets.len()))
     }
 }
 
@@ -82,16 +75,14 @@ impl Matcher {
 pub(crate) fn improve(
     matching: &mut Match,
     sets: &[VarSet],
-    variables: usize,
     resources: usize,
     walk: &mut Walk,
 ) -> bool
-    requires matched { IsMatch variables resources (fits_in sets.now) matching.old }
-    requires sets { length sets.now ≡ variables }
-    ensures matched { IsMatch variables resources (fits_in sets.now) matching.new }
-    ensures improved { MatchBool result (size_of variables (given_in matching.new) ≡ size_of variables (given_in matching.old) + 1) (IsClosed variables resources (fits_in sets.now) matching.new walk.new) }
+    requires matched { IsMatch (length sets.now) resources (fits_in sets.now) matching.old }
+    ensures matched { IsMatch (length sets.now) resources (fits_in sets.now) matching.new }
+    ensures improved { MatchBool result (size_of (length sets.now) (given_in matching.new) ≡ size_of (length sets.now) (given_in matching.old) + 1) (IsClosed (length sets.now) resources (fits_in sets.now) matching.new walk.new) }
 {
-    let Some((first, free)) = search(matching, sets, variables, resources, walk) else {
+    let Some((first, free)) = search(matching, sets, resources, walk) else {
         return false;
     };
     let mut variable = first;

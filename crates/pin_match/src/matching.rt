@@ -6,7 +6,7 @@ ghost use Rattle.pin_match.specs.Pairs.{IsPaired, IsMatch, IsOffer, given_in, ga
 use crate::sets::{fits, next_fit};
 use res_base::VarSet;
 
-/// Who has what.
+/// Who has what: the resource of each variable, and the variable of each resource.
 #[derive(Drop)]
 pub(crate) struct Match {
     pub given: [Option<u8>; 192],
@@ -43,12 +43,11 @@ pub(crate) fn give(matching: &mut Match, variable: u8, resource: u8) -> Option<u
 }
 
 /// Drops what a variable has where it is no longer in its set.
-pub(crate) fn keep(matching: &mut Match, sets: &[VarSet], variables: usize, resources: usize)
-    requires paired { IsPaired variables resources matching.old }
-    requires sets { length sets.now ≡ variables }
-    ensures { IsMatch variables resources (fits_in sets.now) matching.new }
+pub(crate) fn keep(matching: &mut Match, sets: &[VarSet], resources: usize)
+    requires paired { IsPaired (length sets.now) resources matching.old }
+    ensures { IsMatch (length sets.now) resources (fits_in sets.now) matching.new }
 {
-    for variable in 0..variables {
+    for variable in 0..sets.len() {
         let Some(resource) = matching.given[variable] else {
             continue;
         };
@@ -63,33 +62,25 @@ pub(crate) fn keep(matching: &mut Match, sets: &[VarSet], variables: usize, reso
 /// Gives each variable that has nothing the first resource of its set that nobody has.
 ///
 /// Most variables are served by this, so that few searches are left.
-pub(crate) fn take_free(matching: &mut Match, sets: &[VarSet], variables: usize, resources: usize)
-    requires matched { IsMatch variables resources (fits_in sets.now) matching.old }
-    requires sets { length sets.now ≡ variables }
-    ensures { IsMatch variables resources (fits_in sets.now) matching.new }
+pub(crate) fn take_free(matching: &mut Match, sets: &[VarSet], resources: usize)
+    requires matched { IsMatch (length sets.now) resources (fits_in sets.now) matching.old }
+    ensures { IsMatch (length sets.now) resources (fits_in sets.now) matching.new }
 {
-    for variable in 0..variables {
+    for variable in 0..sets.len() {
         if matching.given[variable].is_some() {
             continue;
         }
-        if let Some(resource) = free_fit(matching, sets, variables, resources, variable as u8) {
+        if let Some(resource) = free_fit(matching, sets, resources, variable as u8) {
             let _ = give(matching, variable as u8, resource);
         }
     }
 }
 
 /// The first resource in the set of a variable that nobody has.
-fn free_fit(
-    matching: &Match,
-    sets: &[VarSet],
-    variables: usize,
-    resources: usize,
-    variable: u8,
-) -> Option<u8>
-    requires matched { IsMatch variables resources (fits_in sets.now) matching.now }
-    requires sets { length sets.now ≡ variables }
-    requires variable { variable < variables }
-    ensures { IfSome result (IsOffer variables resources (fits_in sets.now) matching.now variable) }
+fn free_fit(matching: &Match, sets: &[VarSet], resources: usize, variable: u8) -> Option<u8>
+    requires matched { IsMatch (length sets.now) resources (fits_in sets.now) matching.now }
+    requires variable { variable < length sets.now }
+    ensures { IfSome result (IsOffer (length sets.now) resources (fits_in sets.now) matching.now variable) }
 {
     let mut at = 0;
     while let Some(resource) = next_fit(sets, variable, at) {

@@ -1,5 +1,5 @@
 //! The search along alternating steps for a resource that nobody has.
-ghost use Rattle.std.specs.Prelude.{◌≡◌, ℕ, ◌+◌, ◌<◌, ◌≤◌, Bool, true, false, Some, None, Option, MatchOption, length};
+ghost use Rattle.std.specs.Prelude.{◌≡◌, ◌+◌, ◌<◌, ◌≤◌, true, Some, None, Option, MatchOption, length};
 ghost use Rattle.pin_match.specs.Sets.{fits_in};
 ghost use Rattle.pin_match.specs.Walks.{IsWalk, Scanned, Started, reached_in};
 ghost use Rattle.pin_match.specs.Pairs.{IsMatch, Met, IsClosed, given_in};
@@ -13,18 +13,16 @@ use res_base::VarSet;
 pub(crate) fn scan(
     matching: &Match,
     sets: &[VarSet],
-    variables: usize,
     resources: usize,
     walk: &mut Walk,
     variable: u8,
 ) -> Option<u8>
-    requires matched { IsMatch variables resources (fits_in sets.now) matching.now }
-    requires sets { length sets.now ≡ variables }
-    requires walk { IsWalk variables (fits_in sets.now) (given_in matching.now) walk.old }
-    requires variable { variable < variables }
+    requires matched { IsMatch (length sets.now) resources (fits_in sets.now) matching.now }
+    requires walk { IsWalk (length sets.now) (fits_in sets.now) (given_in matching.now) walk.old }
+    requires variable { variable < length sets.now }
     requires reached { reached_in walk.old variable ≡ true }
-    ensures walk { IsWalk variables (fits_in sets.now) (given_in matching.now) walk.new }
-    ensures scanned { MatchOption result (Scanned variables (fits_in sets.now) (given_in matching.now) walk.old walk.new variable resources) (λ r. Met variables resources (fits_in sets.now) matching.now walk.new variable r) }
+    ensures walk { IsWalk (length sets.now) (fits_in sets.now) (given_in matching.now) walk.new }
+    ensures scanned { MatchOption result (Scanned (length sets.now) (fits_in sets.now) (given_in matching.now) walk.old walk.new variable resources) (λ r. Met (length sets.now) resources (fits_in sets.now) matching.now walk.new variable r) }
 {
     let mut at = 0;
     while let Some(resource) = next_fit(sets, variable, at) {
@@ -61,20 +59,18 @@ pub(crate) fn start(matching: &Match, variables: usize, walk: &mut Walk)
 pub(crate) fn search(
     matching: &Match,
     sets: &[VarSet],
-    variables: usize,
     resources: usize,
     walk: &mut Walk,
 ) -> Option<(u8, u8)>
-    requires matched { IsMatch variables resources (fits_in sets.now) matching.now }
-    requires sets { length sets.now ≡ variables }
-    ensures walk { IsWalk variables (fits_in sets.now) (given_in matching.now) walk.new }
-    ensures searched { MatchOption result (IsClosed variables resources (fits_in sets.now) matching.now walk.new) (λ p. Met variables resources (fits_in sets.now) matching.now walk.new p.0 p.1) }
+    requires matched { IsMatch (length sets.now) resources (fits_in sets.now) matching.now }
+    ensures walk { IsWalk (length sets.now) (fits_in sets.now) (given_in matching.now) walk.new }
+    ensures searched { MatchOption result (IsClosed (length sets.now) resources (fits_in sets.now) matching.now walk.new) (λ p. Met (length sets.now) resources (fits_in sets.now) matching.now walk.new p.0 p.1) }
 {
-    start(matching, variables, walk);
+    start(matching, sets.len(), walk);
     let mut head = 0;
     while head < walk.len {
         let variable = walk.queue[head];
-        if let Some(resource) = scan(matching, sets, variables, resources, walk, variable) {
+        if let Some(resource) = scan(matching, sets, resources, walk, variable) {
             return Some((variable, resource));
         }
         head += 1;

@@ -1,5 +1,5 @@
 //! Reads of the variables' sets.
-ghost use Rattle.std.specs.Prelude.{◌≡◌, ℕ, ◌<◌, ◌≤◌, length, MatchOption};
+ghost use Rattle.std.specs.Prelude.{◌≡◌, ◌<◌, ◌≤◌, length, MatchOption};
 ghost use Rattle.res_base.specs.VarSet.{NoneFrom, IsNext};
 ghost use Rattle.pin_match.specs.Sets.{fits_in};
 

@@ -1,7 +1,9 @@
 //! What a search along alternating steps has reached, in the order in which it came.
-ghost use Rattle.std.specs.Prelude.{◌≡◌, ℕ, ◌+◌, ◌<◌, ◌≤◌, Bool, true, false, Some, None, Option, slice_index, slice_index_or};
+ghost use Rattle.std.specs.Prelude.{◌≡◌, ℕ, ◌+◌, ◌<◌, ◌≤◌, true, false, Option};
 ghost use Rattle.pin_match.specs.Walks.{Started, added};
 
+/// The variables that are reached, in the order in which they came, and for each its place
+/// in that order and the variable from which it was reached.
 #[derive(Drop)]
 pub(crate) struct Walk {
     pub queue: [u8; 192],
@@ -12,6 +14,7 @@ pub(crate) struct Walk {
 }
 
 impl Walk {
+    /// Nothing is reached.
     pub(crate) fn new() -> Walk
         ensures { (n : ℕ) (f : ℕ → Option ℕ) → n ≤ 192 → Started n f result 0 }
     {

@@ -1,6 +1,6 @@
 -- A signal has a value, and at most 16.
-use Rattle.std.proofs.Common.{◌≡◌, ◌≢◌, ◌⊎◌, ℕ, zero, suc, ◌+◌, ◌<◌, ◌≤◌, List, [], ◌∷◌, ◌++◌, Bool, true, false, not, cond, length, Option, Some, None, IsTrue, inl, inr, refl, sym, ap, subst, ◌∙◌, length-append, arith}
-use Rattle.std.specs.Prelude.{filter, find, codes, IsSome, IfSome, MatchOption}
+use Rattle.std.proofs.Common.{◌≡◌, ◌≢◌, ◌⊎◌, ℕ, zero, suc, ◌+◌, ◌<◌, ◌≤◌, List, [], ◌∷◌, ◌++◌, Bool, true, false, not, ◌||◌, cond, length, Option, Some, None, IsTrue, inl, inr, refl, sym, ap, subst, ◌∙◌, length-append, arith}
+use Rattle.std.specs.Prelude.{filter, find, codes, is_some, IsSome, IsSomeAnd, IfSome, MatchOption}
 use Rattle.std.specs.List.{list_any}
 use Rattle.std.specs.Str.{bytes_eq}
 use Rattle.std.proofs.lemmas.Slice.Eq.{bytes_eq-Decides}
@@ -13,7 +13,8 @@ use Rattle.res_model.specs.declared.table.Role.{Role}
 use Rattle.res_model.specs.declared.table.Role.TheVariants.{Alt, Input, Output, Analog, Exti, Osc}
 use Rattle.res_model.specs.declared.table.TableParts.{TableParts}
 use Rattle.res_model.specs.declared.table.TableSignal.{TableSignal}
-use Rattle.res_model.specs.Placeable.{IsPlaceable}
+use Rattle.res_model.specs.Placed.{IsPlaced, HasRowAt, is_held, rows_in, rows_named, rows_of as rows_held}
+use Rattle.res_model.specs.Project.{signal_named}
 use Rattle.res_model.specs.Signals.{signal_of, rows_of, role_mode, own_mode}
 use Rattle.res_model.specs.Valid.{IsValid, IsSignal, HasRowsDue}
 use Rattle.res_model.specs.Values.{is_at, rows_at, rows_elsewhere, use_at, placed, values_from, values_of}
@@ -27,6 +28,21 @@ each_find {X} P p (x ∷ xs) h = case (p x) (each_find P p xs h.1)
     case : (b : Bool) → MatchOption (find p xs) (Unit {0}) P → MatchOption (cond b (Some x) (find p xs)) (Unit {0}) P
     case true rest = h.0
     case false rest = rest
+
+-- the one that is found passes
+found_passes : {X : Type 0} (p : X → Bool) (xs : List X) → MatchOption (find p xs) (Unit {0}) (λ x. p x ≡ true)
+found_passes p [] = tt
+found_passes {X} p (x ∷ xs) = case (p x) refl (found_passes p xs)
+  where
+    case : (b : Bool) → p x ≡ b → MatchOption (find p xs) (Unit {0}) (λ y. p y ≡ true) → MatchOption (cond b (Some x) (find p xs)) (Unit {0}) (λ y. p y ≡ true)
+    case true e rest = e
+    case false e rest = rest
+
+-- what is asked of a signal, in words of the signal that its name finds
+record IsPlaceable (t : TableParts) (s : Signal) : Type 0 where
+  known : (s.name ≡ codes "-") ⊎ IsSome (signal_of t s.name)
+  placed : MatchOption s.home (rows_of (signal_of t s.name) ≢ []) (λ home. Unit {0})
+  stays : IsTrue s.locked → rows_of (signal_of t s.name) ≢ [] → IfSome s.home (λ home. IsTrue (list_any (is_at home) (rows_of (signal_of t s.name))))
 
 record Fits16 (us : List PinUse) : Type 0 where
   some : 1 ≤ length us
@@ -102,16 +118,73 @@ from_sized : (own : Option Mode) (locked : Bool) (rows : List PinUse) (home : Op
 from_sized own locked rows None some few need stays = record { some = some_rows rows need; few = few }
 from_sized own locked rows (Some home) some few need stays = placed_sized own locked home rows some few stays
 
-no_place : (pins : ℕ) (rows : List PinUse) (home : Option ℕ) → MatchOption home (rows ≢ []) (λ h. h < pins) → MatchOption home (rows ≢ []) (λ h. Unit {0})
-no_place pins rows None h = h
-no_place pins rows (Some x) h = tt
+-- a table has no signal of the name of a held pin
+not_held : (pins : ℕ) (name : List ℕ) (s : Option TableSignal) → MatchOption s (Unit {0}) (IsSignal pins) → MatchOption s (Unit {0}) (λ x. bytes_eq x.name name ≡ true) → bytes_eq name (codes "-") ≡ true → rows_of s ≡ []
+not_held pins name None valid passes held = refl
+not_held pins name (Some s) valid passes held =
+    let same : s.name ≡ name = (bytes_eq-Decides s.name name).0 passes in
+    let dash : name ≡ codes "-" = (bytes_eq-Decides name (codes "-")).0 held in
+    absurd (valid.named (same ∙ dash))
 
-pub sized : (t : TableParts) (s : Signal) → IsValid t → IsPlaceable t s → IsSized t s
+held_or : (name : List ℕ) (s : Option TableSignal) → IsTrue (bytes_eq name (codes "-") || is_some s) → (name ≡ codes "-") ⊎ IsSome s
+held_or name s h = case (bytes_eq name (codes "-")) refl h
+  where
+    case : (b : Bool) → bytes_eq name (codes "-") ≡ b → IsTrue (b || is_some s) → (name ≡ codes "-") ⊎ IsSome s
+    case true e k = inl ((bytes_eq-Decides name (codes "-")).0 e)
+    case false e k = inr k
+
+need_rows : (s : Signal) (pins : ℕ) (rows : List PinUse) → (s.need ≡ true → (s.home ≡ None) × (0 < length rows)) → (s.need ≡ false → IsSomeAnd s.home (λ h. h < pins)) → MatchOption s.home (rows ≢ []) (λ home. Unit {0})
+need_rows s pins rows needed at_home = case s.home s.need needed at_home
+  where
+    case : (home : Option ℕ) (need : Bool) → (need ≡ true → (home ≡ None) × (0 < length rows)) → (need ≡ false → IsSomeAnd home (λ h. h < pins)) → MatchOption home (rows ≢ []) (λ home. Unit {0})
+    case (Some h) need n a = tt
+    case None true n a = λ e. let l : length rows ≡ 0 = ap length e in absurd (omega (arith, (n refl).1))
+    case None false n a = absurd (a refl)
+
+no_length : (us : List PinUse) → length us ≡ 0 → us ≡ []
+no_length [] e = refl
+no_length (u ∷ us) e = absurd (omega arith)
+
+stays_at : (name : List ℕ) (rows : List PinUse) (home : Option ℕ) → (bytes_eq name (codes "-") ≡ true → rows ≡ []) → IfSome home (HasRowAt (cond (bytes_eq name (codes "-")) [] rows)) → rows ≢ [] → IfSome home (λ h. IsTrue (list_any (is_at h) rows))
+stays_at name rows None dash h some = tt
+stays_at name rows (Some place) dash h some = case (bytes_eq name (codes "-")) refl h
+  where
+    case : (b : Bool) → bytes_eq name (codes "-") ≡ b → HasRowAt (cond b [] rows) place → IsTrue (list_any (is_at place) rows)
+    case true e k = absurd (some (dash e))
+    case false e k = elim k [
+      | inl z ↦ absurd (some (no_length rows z))
+      | inr y ↦ y
+    ]
+
+-- two spellings of the rows of a signal
+same_in : (s : Option TableSignal) → rows_in s ≡ rows_of s
+same_in None = refl
+same_in (Some s) = refl
+
+same_rows : (s : Signal) (found : Option TableSignal) → MatchOption s.home (rows_in found ≢ []) (λ home. Unit {0}) → MatchOption s.home (rows_of found ≢ []) (λ home. Unit {0})
+same_rows s found h = subst (λ (us : List PinUse). MatchOption s.home (us ≢ []) (λ home. Unit {0})) (same_in found) h
+
+same_stays : (s : Signal) (found : Option TableSignal) → IfSome s.home (HasRowAt (cond (bytes_eq s.name (codes "-")) [] (rows_in found))) → IfSome s.home (HasRowAt (cond (bytes_eq s.name (codes "-")) [] (rows_of found)))
+same_stays s found h = subst (λ (us : List PinUse). IfSome s.home (HasRowAt (cond (bytes_eq s.name (codes "-")) [] us))) (same_in found) h
+
+is_placeable : (t : TableParts) (s : Signal) → IsValid t → IsPlaced t s → IsPlaceable t s
+unfolding signal_of is_held signal_named rows_named rows_held
+is_placeable t s valid p =
+    let found : Option TableSignal = find (λ x. bytes_eq x.name s.name) t.signals in
+    let is : MatchOption found (Unit {0}) (IsSignal (length t.pins)) = each_find (IsSignal (length t.pins)) (λ x. bytes_eq x.name s.name) t.signals valid.signals.each in
+    let passes : MatchOption found (Unit {0}) (λ x. bytes_eq x.name s.name ≡ true) = found_passes (λ x. bytes_eq x.name s.name) t.signals in
+    record {
+      known = held_or s.name found p.named;
+      placed = same_rows s found (need_rows s (length t.pins) (rows_in found) p.needed p.at_home);
+      stays = λ l. stays_at s.name (rows_of found) s.home (not_held (length t.pins) s.name found is passes) (same_stays s found (p.stays l));
+    }
+
+pub sized : (t : TableParts) (s : Signal) → IsValid t → IsPlaced t s → IsSized t s
 unfolding signal_of values_of
-sized t s valid placeable =
+sized t s valid p =
+    let placeable = is_placeable t s valid p in
     let found : Option TableSignal = find (λ x. bytes_eq x.name s.name) t.signals in
     let is : MatchOption found (Unit {0}) (IsSignal (length t.pins)) = each_find (IsSignal (length t.pins)) (λ x. bytes_eq x.name s.name) t.signals valid.signals.each in
     let fits : Fits16 (values_from (rows_of found) (own_mode s.name found) s.locked s.home) =
-        from_sized (own_mode s.name found) s.locked (rows_of found) s.home (own_some (length t.pins) s.name found placeable.known is) (rows_few (length t.pins) found is)
-        (no_place (length t.pins) (rows_of found) s.home placeable.placed) placeable.stays in
+        from_sized (own_mode s.name found) s.locked (rows_of found) s.home (own_some (length t.pins) s.name found placeable.known is) (rows_few (length t.pins) found is) placeable.placed placeable.stays in
     record { some = fits.some; few = fits.few }

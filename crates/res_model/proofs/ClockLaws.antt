@@ -29,7 +29,7 @@ distinct_keeps before path d w kept h =
     let t = bound (text path d) _ w h in
     let f = fresh_new path (list_any (λ x. bytes_eq x t.0) before) t.0 w t.2 in
     one_more IsText DifferTexts before w kept (subst IsText f.1 (text_keeps path d t.0 t.1))
-      (each_map (λ x. bytes_eq x t.0 ≡ false) (λ x. DifferTexts x w) before (λ x e. subst (λ (y : List ℕ). DifferTexts x y) f.1 (differ x t.0 e)) (none_passes (λ x. bytes_eq x t.0) before f.0))
+    (each_map (λ x. bytes_eq x t.0 ≡ false) (λ x. DifferTexts x w) before (λ x e. subst (λ (y : List ℕ). DifferTexts x y) f.1 (differ x t.0 e)) (none_passes (λ x. bytes_eq x t.0) before f.0))
 
 -- ---- ascending lists
 
@@ -79,7 +79,7 @@ next_keeps these before path d n kept h =
     let m = bound (number_among these path d) _ n h in
     let t = must_holds (BadField path) (is_above before m.0) m.0 n m.2 in
     one_more (λ n. Member n these) Ascend before n kept (subst (λ (k : ℕ). Member k these) t.1 (among_keeps these path d m.0 m.1))
-      (subst (λ (k : ℕ). Each (λ (x : ℕ). x < k) before) t.1 (all_below before m.0 kept.1 t.0))
+    (subst (λ (k : ℕ). Each (λ (x : ℕ). x < k) before) t.1 (all_below before m.0 kept.1 t.0))
 
 are_among : (these path : List ℕ) (ds : List Data) (ns : List ℕ) → entries_after (next_among these) path [] ds ≡ Ok ns → AreAmong these ns
 are_among these path ds ns h =
@@ -148,11 +148,17 @@ clock_keeps d c h =
       m = range_keeps 2 63 (codes "clock") (codes "m") d m.0 m.1;
       n = range_keeps 50 432 (codes "clock") (codes "n") d n.0 n.1;
       q = range_keeps 2 15 (codes "clock") (codes "q") d q.0 q.1;
-      p = ps.among; p_some = ps.some;
-      hpre = hs.among; hpre_one = hs.one;
-      ppre1 = bs.among; ppre1_one = bs.one;
-      ppre2 = es.among; ppre2_one = es.one;
-      vos = vs.among; vos_one = vs.one } in
+      p = ps.among;
+      p_some = ps.some;
+      hpre = hs.among;
+      hpre_one = hs.one;
+      ppre1 = bs.among;
+      ppre1_one = bs.one;
+      ppre2 = es.among;
+      ppre2_one = es.one;
+      vos = vs.among;
+      vos_one = vs.one;
+    } in
     subst AreDomains (same_ok (record { hpre = a.0; p = p.0; m = m.0; n = n.0; q = q.0; ppre1 = b.0; ppre2 = e.0; vos = v.0 }) c v.2) fine
 
 -- ---- the limits
@@ -186,5 +192,6 @@ limits_keep d b h =
       vco = range_keeps 100000000 432000000 (codes "limits") (codes "vco") d v.0 v.1;
       sysclk = most_keeps 1 168000000 (codes "limits") (codes "sysclk") d s.0 s.1;
       pclk1 = most_keeps 1 42000000 (codes "limits") (codes "pclk1") d p.0 p.1;
-      pclk2 = most_keeps 1 84000000 (codes "limits") (codes "pclk2") d q.0 q.1 } in
+      pclk2 = most_keeps 1 84000000 (codes "limits") (codes "pclk2") d q.0 q.1;
+    } in
     subst AreRead (same_ok (record { crystal = c.0; bypass = y.0; vco_in = i.0; vco = v.0; sysclk = s.0; pclk1 = p.0; pclk2 = q.0 }) b q.2) fine

@@ -47,7 +47,7 @@ order_more vos ss s is h fits =
     let lt : length ss < length vos = omega (arith, l, fits) in
     let less : length ss ≤ length vos = omega (arith, lt) in
     subst (λ (k : ℕ). numbers (ss ++ s ∷ []) ≡ take k vos) (sym l)
-      (numbers_more ss s ∙ ap (λ (ns : List ℕ). ns ++ s.vos ∷ []) (h less) ∙ ap (λ (n : ℕ). take (length ss) vos ++ n ∷ []) is ∙ sym (take-suc vos (length ss) 0 lt))
+    (numbers_more ss s ∙ ap (λ (ns : List ℕ). ns ++ s.vos ∷ []) (h less) ∙ ap (λ (n : ℕ). take (length ss) vos ++ n ∷ []) is ∙ sym (take-suc vos (length ss) 0 lt))
 
 scale_keeps : (vos : List ℕ) (before : List Scale) (path : List ℕ) (d : Data) (s : Scale) → AsDue vos before → scale vos before path d ≡ Ok s → AsDue vos (before ++ s ∷ [])
 unfolding scale
@@ -127,7 +127,7 @@ range_more before path d r kept h =
     let fine : IsReadRange (record { from = f.0; to = t.0; prefetch = p.0; rows = w.0 }) = record { ordered = order; rows_some = rows.low; rows_few = rows.high; ascending = rows.kept.1 } in
     let is = same_ok (record { from = f.0; to = t.0; prefetch = p.0; rows = w.0 }) r w.2 in
     one_more IsReadRange IsBelow before r kept (subst IsReadRange is fine)
-      (subst (λ (x : FlashRange). Each (λ (q : FlashRange). q.to < x.from) before) is (ends_below before f.0 kept after))
+    (subst (λ (x : FlashRange). Each (λ (q : FlashRange). q.to < x.from) before) is (ends_below before f.0 kept after))
 
 pub flash_keeps : (path : List ℕ) (d : Data) (rs : List FlashRange) → list 0 16 flash_range path d ≡ Ok rs → Kept (AreKept IsReadRange IsBelow) 0 16 rs
 flash_keeps path d rs h = list_keeps (AreKept IsReadRange IsBelow) 0 16 flash_range path d rs (tt, tt) range_more h
@@ -143,15 +143,15 @@ unfolding source_of
 source_small None n h = absurd cc
 source_small (Some w) n h =
     picked (λ (k : ℕ). k < 3) (bytes_eq w (codes "HSI")) 0 n (if bytes_eq w (codes "HSE") then Some 1 else (if bytes_eq w (codes "PLL") then Some 2 else None)) (omega arith)
-      (λ e. picked (λ (k : ℕ). k < 3) (bytes_eq w (codes "HSE")) 1 n (if bytes_eq w (codes "PLL") then Some 2 else None) (omega arith)
-        (λ f. picked (λ (k : ℕ). k < 3) (bytes_eq w (codes "PLL")) 2 n None (omega arith) (λ g. absurd cc) f) e) h
+    (λ e. picked (λ (k : ℕ). k < 3) (bytes_eq w (codes "HSE")) 1 n (if bytes_eq w (codes "PLL") then Some 2 else None) (omega arith)
+    (λ f. picked (λ (k : ℕ). k < 3) (bytes_eq w (codes "PLL")) 2 n None (omega arith) (λ g. absurd cc) f) e) h
 
 pll_source_small : (o : Option (List ℕ)) (n : ℕ) → option_and_then pll_source_of o ≡ Some n → n < 2
 unfolding pll_source_of
 pll_source_small None n h = absurd cc
 pll_source_small (Some w) n h =
     picked (λ (k : ℕ). k < 2) (bytes_eq w (codes "HSI")) 0 n (if bytes_eq w (codes "HSE") then Some 1 else None) (omega arith)
-      (λ e. picked (λ (k : ℕ). k < 2) (bytes_eq w (codes "HSE")) 1 n None (omega arith) (λ g. absurd cc) e) h
+    (λ e. picked (λ (k : ℕ). k < 2) (bytes_eq w (codes "HSE")) 1 n None (omega arith) (λ g. absurd cc) e) h
 
 source_keeps : (path : List ℕ) (d : Data) (n : ℕ) → source_form path d ≡ Ok n → n < 3
 unfolding source_form
@@ -175,8 +175,10 @@ unfolding default_sources
 sources_keep d s h =
     let a = bound (nested source_form (codes "defaults") (codes "src") d) _ s h in
     let b = bound (nested pll_source_form (codes "defaults") (codes "psrc") d) _ s a.2 in
-    let fine : AreSources (a.0, b.0) = (nested_keeps (λ (n : ℕ). n < 3) source_form (codes "defaults") (codes "src") d a.0 (λ path v e. source_keeps path v a.0 e) a.1,
-      nested_keeps (λ (n : ℕ). n < 2) pll_source_form (codes "defaults") (codes "psrc") d b.0 (λ path v e. pll_source_keeps path v b.0 e) b.1) in
+    let fine : AreSources (a.0, b.0) = (
+      nested_keeps (λ (n : ℕ). n < 3) source_form (codes "defaults") (codes "src") d a.0 (λ path v e. source_keeps path v a.0 e) a.1,
+      nested_keeps (λ (n : ℕ). n < 2) pll_source_form (codes "defaults") (codes "psrc") d b.0 (λ path v e. pll_source_keeps path v b.0 e) b.1,
+    ) in
     subst AreSources (same_ok (a.0, b.0) s b.2) fine
 
 record AreFactors (c : Domains) (f : ℕ × ℕ × ℕ × ℕ × ℕ) : Type 0 where
@@ -199,7 +201,8 @@ factors_keep c d f h =
       p = among_default c.p (codes "p") d p.0 p.1;
       m = within_default c.m (codes "m") d m.0 m.1;
       n = within_default c.n (codes "n") d n.0 n.1;
-      q = within_default c.q (codes "q") d q.0 q.1 } in
+      q = within_default c.q (codes "q") d q.0 q.1;
+    } in
     subst (AreFactors c) (same_ok (a.0, p.0, m.0, n.0, q.0) f q.2) fine
 
 record AreBuses (c : Domains) (b : ℕ × ℕ × ℕ) : Type 0 where
@@ -216,7 +219,8 @@ buses_keep c d b h =
     let fine : AreBuses c (x.0, y.0, z.0) = record {
       ppre1 = among_default c.ppre1 (codes "ppre1") d x.0 x.1;
       ppre2 = among_default c.ppre2 (codes "ppre2") d y.0 y.1;
-      vos = among_default c.vos (codes "vos") d z.0 z.1 } in
+      vos = among_default c.vos (codes "vos") d z.0 z.1;
+    } in
     subst (AreBuses c) (same_ok (x.0, y.0, z.0) b z.2) fine
 
 abbrev pub AreDefaultsRead : Domains → List ℕ × ℕ → Type 0

@@ -24,11 +24,11 @@ no_number text none =
     elim (bool_cases (nat_lt v (2 ^ 64))) [
       | inr e ↦ rw e refl
       | inl e ↦ elim (bool_cases (bytes_eq text (decimal v))) [
-          | inr d ↦ rw (e, d) refl
-          | inl d ↦
-              let below : v < 2 ^ 64 = grind (arith, nat_tests) in
-              absurd (none v below ((bytes_eq-Decides text (decimal v)).0 d))
-        ]
+        | inr d ↦ rw (e, d) refl
+        | inl d ↦
+            let below : v < 2 ^ 64 = grind (arith, nat_tests) in
+            absurd (none v below ((bytes_eq-Decides text (decimal v)).0 d))
+      ]
     ]
 
 -- what `parse_dec` answers is the number of the text

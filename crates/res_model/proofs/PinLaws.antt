@@ -1,14 +1,16 @@
 -- What the pins of a table that is read keep.
 use Rattle.std.proofs.Common.{◌≡◌, ◌≢◌, ℕ, ◌<◌, ◌≤◌, ◌+◌, ◌-◌, List, [], ◌∷◌, ◌++◌, length, map, Bool, true, false, not, Option, Some, None, Result, Ok, Err, refl, sym, ap, subst, arith, ◌⊎◌, inl, inr, ◌&&◌, ◌||◌, leb-true, ltb-true, eqb-true, ◌∙◌}
 use Rattle.std.specs.Prelude.{nat_le, nat_lt, ◌==◌, option_and_then, if◌then◌else◌, decimal, codes, position, IfSome, slice_get, slice_index, option_map}
-use Rattle.std.specs.List.{list_any}
+use Rattle.std.specs.List.{list_any, position_or_len}
+use Rattle.std.proofs.Common.{cond}
+use Rattle.std.proofs.lemmas.Bool.Decides.{nat_tests}
 use Rattle.std.specs.Str.{bytes_eq}
 use Rattle.std.proofs.lemmas.Grind.{common_steps}
 use Rattle.res_base.specs.Lists.{Each, Member, Pairwise}
 use Rattle.res_base.proofs.ListLemmas.{each_push, each_map, pairs_push}
 use Rattle.res_model.specs.Steps.{◌>>=◌}
 use Rattle.res_model.specs.Json.{word, number, two, entries, is_object}
-use Rattle.res_model.specs.Table.{below, due, must, fresh, text, list, pin_number, ten_and, is_digit, begins_with_digit, spot, is_same_pin, pin}
+use Rattle.res_model.specs.Table.{below, due, must, fresh, text, list, pin_number, ten_and, is_digit, begins_with_digit, spot, is_same_pin, pin, place}
 use Rattle.res_model.specs.Valid.{IsText, IsOnPort, IsPin, AreTwoPins, ArePins, IsFunction, IsModeOf, HasRowsDue, AreRows, IsSignal, AreSignals}
 use Rattle.res_model.proofs.TableLaws.{bound, reads, same_ok, due_some, must_holds, fresh_new, need_keeps, may_keeps, both, neither, between, differ, none_passes, text_keeps, number_keeps, entries_keep, Kept, list_keeps}
 use Rattle.serde_json.specs.Data.{Data}
@@ -104,3 +106,21 @@ pub pins_keep : (path : List ℕ) (d : Data) (ps : List Pin) → list 0 144 pin 
 pins_keep path d ps h =
     let k = list_keeps (AreKept IsPin AreTwoPins) 0 144 pin path d ps (tt, tt) pin_keeps h in
     record { few = k.high; each = k.kept.0; differ = k.kept.1 }
+
+-- ---- the place of a pin
+
+none_before : (name : List ℕ) (pins : List Pin) → length pins ≤ position_or_len (λ p. bytes_eq p.name name) pins → Each (λ (p : Pin). p.name ≢ name) pins
+none_before name [] h = tt
+none_before name (p ∷ ps) h =
+    elim (bytes_eq p.name name) as (λ b. bytes_eq p.name name ≡ b → length (p ∷ ps) ≤ cond (not b) (1 + position_or_len (λ q. bytes_eq q.name name) ps) 0 → Each (λ (q : Pin). q.name ≢ name) (p ∷ ps)) [
+      | true ↦ λ e k. absurd (omega arith)
+      | false ↦ λ e k. (differ p.name name e, none_before name ps (omega (arith, k)))
+    ] refl h
+
+past : (n m : ℕ) → (if nat_lt n m then Some n else None) ≡ None → m ≤ n
+past n m h = grind (arith, nat_tests)
+
+-- no pin has a name that has no place
+pub no_place : (pins : List Pin) (name : List ℕ) → place pins name ≡ None → Each (λ (p : Pin). p.name ≢ name) pins
+unfolding place
+no_place pins name h = none_before name pins (past (position_or_len (λ p. bytes_eq p.name name) pins) (length pins) h)

@@ -9,7 +9,7 @@ use Rattle.res_base.specs.Lists.{Each, Member, Pairwise}
 use Rattle.res_base.proofs.ListLemmas.{each_push, each_map}
 use Rattle.res_model.specs.Steps.{◌>>=◌}
 use Rattle.res_model.specs.Json.{word, two, is_object}
-use Rattle.res_model.specs.Table.{below, due, must, fresh, need, may, member, optional, text, object, flag, number_within, list, any_text, place, use_form, pin_named, row, alt_row, pin_row, no_rows, rows, signal_name, some_text, signal, clock48_form, ip_name, ip}
+use Rattle.res_model.specs.Table.{below, due, must, fresh, need, may, member, optional, text, object, flag, number_within, list, any_text, place, use_form, pin_named, row, alt_row, pin_row, no_rows, rows, real_name, signal_name, some_text, signal, clock48_form, ip_name, ip}
 use Rattle.res_model.specs.Valid.{IsText, IsFunction, IsModeOf, HasRowsDue, AreRows, IsSignal, AreSignals, IsIp, AreIps}
 use Rattle.res_model.proofs.TableLaws.{bound, reads, same_ok, due_some, must_holds, fresh_new, need_keeps, may_keeps, differ, none_passes, text_keeps, number_keeps, Kept, list_keeps}
 use Rattle.res_model.proofs.PinLaws.{AreKept, one_more, not_true}
@@ -54,7 +54,7 @@ row_keeps pins r before path named m u within fits kept h =
     let f = fresh_new path (list_any (λ v. v.pin == p.0) before) (record { pin = p.0; mode = m }) u p.2 in
     let fine : IsRowOf pins r (record { pin = p.0; mode = m }) = (within p.0 (due_some (BadField path) named p.0 p.1), fits) in
     one_more (IsRowOf pins r) AreApart before u kept (subst (IsRowOf pins r) f.1 fine)
-      (each_map (λ v. (v.pin == p.0) ≡ false) (λ v. AreApart v u) before (λ v e. subst (λ (w : PinUse). AreApart v w) f.1 (other_pin v.pin p.0 e)) (none_passes (λ v. v.pin == p.0) before f.0))
+    (each_map (λ v. (v.pin == p.0) ≡ false) (λ v. AreApart v u) before (λ v e. subst (λ (w : PinUse). AreApart v w) f.1 (other_pin v.pin p.0 e)) (none_passes (λ v. v.pin == p.0) before f.0))
 
 alt_keeps : (pins : List Pin) (before : List PinUse) (path : List ℕ) (d : Data) (u : PinUse) → AreKept (IsRowOf pins role.Alt) AreApart before → alt_row pins before path d ≡ Ok u → AreKept (IsRowOf pins role.Alt) AreApart (before ++ u ∷ [])
 unfolding alt_row
@@ -77,7 +77,8 @@ are_rows pins r least us k due = record {
   at_pins = each_map (IsRowOf pins r) (λ (u : PinUse). u.pin < length pins) us (λ u h. h.0) k.kept.0;
   modes = each_map (IsRowOf pins r) (λ (u : PinUse). IsModeOf r u.mode) us (λ u h. h.1) k.kept.0;
   apart = k.kept.1;
-  due = due }
+  due = due;
+}
 
 no_row : (pins : List Pin) (r : Role) → HasRowsDue r [] → AreRows (length pins) r []
 no_row pins r due = record { few = omega arith; at_pins = tt; modes = tt; apart = tt; due = due }
@@ -90,13 +91,13 @@ pub rows_keep : (pins : List Pin) (r : Role) (path : List ℕ) (d : Data) (us : 
 unfolding rows
 rows_keep pins role.Alt path d us h =
     need_keeps (AreRows (length pins) role.Alt) (list 1 16 (alt_row pins)) (below path (codes "at")) (get (codes "at") d) us
-      (λ v e. let k = list_keeps (AreKept (IsRowOf pins role.Alt) AreApart) 1 16 (alt_row pins) (below path (codes "at")) v us (tt, tt) (alt_keeps pins) e in are_rows pins role.Alt 1 us k k.low) h
+    (λ v e. let k = list_keeps (AreKept (IsRowOf pins role.Alt) AreApart) 1 16 (alt_row pins) (below path (codes "at")) v us (tt, tt) (alt_keeps pins) e in are_rows pins role.Alt 1 us k k.low) h
 rows_keep pins role.Osc path d us h =
     need_keeps (AreRows (length pins) role.Osc) (list 1 16 (pin_row pins mode.Osc)) (below path (codes "at")) (get (codes "at") d) us
-      (λ v e. let k = list_keeps (AreKept (IsRowOf pins role.Osc) AreApart) 1 16 (pin_row pins mode.Osc) (below path (codes "at")) v us (tt, tt) (pin_row_keeps pins role.Osc mode.Osc refl) e in are_rows pins role.Osc 1 us k k.low) h
+    (λ v e. let k = list_keeps (AreKept (IsRowOf pins role.Osc) AreApart) 1 16 (pin_row pins mode.Osc) (below path (codes "at")) v us (tt, tt) (pin_row_keeps pins role.Osc mode.Osc refl) e in are_rows pins role.Osc 1 us k k.low) h
 rows_keep pins role.Analog path d us h =
     may_keeps (AreRows (length pins) role.Analog) (list 0 16 (pin_row pins mode.Analog)) [] (below path (codes "at")) (get (codes "at") d) us (no_row pins role.Analog tt)
-      (λ v e. let k = list_keeps (AreKept (IsRowOf pins role.Analog) AreApart) 0 16 (pin_row pins mode.Analog) (below path (codes "at")) v us (tt, tt) (pin_row_keeps pins role.Analog mode.Analog refl) e in are_rows pins role.Analog 0 us k tt) h
+    (λ v e. let k = list_keeps (AreKept (IsRowOf pins role.Analog) AreApart) 0 16 (pin_row pins mode.Analog) (below path (codes "at")) v us (tt, tt) (pin_row_keeps pins role.Analog mode.Analog refl) e in are_rows pins role.Analog 0 us k tt) h
 rows_keep pins role.Input path d us h = none_keep pins role.Input (below path (codes "at")) (get (codes "at") d) us refl h
 rows_keep pins role.Output path d us h = none_keep pins role.Output (below path (codes "at")) (get (codes "at") d) us refl h
 rows_keep pins role.Exti path d us h = none_keep pins role.Exti (below path (codes "at")) (get (codes "at") d) us refl h
@@ -111,17 +112,28 @@ record IsName (before : List TableSignal) (name : List ℕ) : Type 0 where
   pub named : name ≢ codes "-"
   pub new : Each (λ (s : TableSignal). s.name ≢ name) before
 
+abbrev IsReal : List ℕ → Type 0
+IsReal w = IsText w × (w ≢ codes "-")
+
+real_keeps : (path : List ℕ) (d : Data) (name : List ℕ) → real_name path d ≡ Ok name → IsReal name
+unfolding real_name
+real_keeps path d name h =
+    let w = bound (text path d) _ name h in
+    let n = must_holds (BadField path) (not (bytes_eq w.0 (codes "-"))) w.0 name w.2 in
+    let fine : IsReal w.0 = (text_keeps path d w.0 w.1, differ w.0 (codes "-") (not_true (bytes_eq w.0 (codes "-")) n.0)) in
+    subst IsReal n.1 fine
+
 name_keeps : (before : List TableSignal) (path : List ℕ) (d : Data) (name : List ℕ) → signal_name before path d ≡ Ok name → IsName before name
 unfolding signal_name
 name_keeps before path d name h =
-    let w = bound (text path d) _ name h in
-    let m = bound (must (BadField path) (not (bytes_eq w.0 (codes "-"))) w.0) _ name w.2 in
-    let n = must_holds (BadField path) (not (bytes_eq w.0 (codes "-"))) w.0 m.0 m.1 in
+    let m = bound (real_name path d) _ name h in
     let f = fresh_new path (list_any (λ s. bytes_eq s.name m.0) before) m.0 name m.2 in
+    let r = real_keeps path d m.0 m.1 in
     let fine : IsName before m.0 = record {
-      text = subst IsText n.1 (text_keeps path d w.0 w.1);
-      named = subst (λ (x : List ℕ). x ≢ codes "-") n.1 (differ w.0 (codes "-") (not_true (bytes_eq w.0 (codes "-")) n.0));
-      new = each_map (λ s. bytes_eq s.name m.0 ≡ false) (λ (s : TableSignal). s.name ≢ m.0) before (λ s e. differ s.name m.0 e) (none_passes (λ s. bytes_eq s.name m.0) before f.0) } in
+      text = r.0;
+      named = r.1;
+      new = each_map (λ s. bytes_eq s.name m.0 ≡ false) (λ (s : TableSignal). s.name ≢ m.0) before (λ s e. differ s.name m.0 e) (none_passes (λ s. bytes_eq s.name m.0) before f.0);
+    } in
     subst (IsName before) f.1 fine
 
 some_keeps : (path : List ℕ) (d : Data) (o : Option (List ℕ)) → some_text path d ≡ Ok o → IfSome o IsText
@@ -144,10 +156,11 @@ signal_keeps pins before path d s kept h =
       text = name.text;
       named = name.named;
       ip = may_keeps (λ (x : Option (List ℕ)). IfSome x IsText) some_text None (below path (codes "ip")) (get (codes "ip") o.0) i.0 tt (λ v e. some_keeps (below path (codes "ip")) v i.0 e) i.1;
-      rows = rows_keep pins k.0 path o.0 at.0 at.1 } in
+      rows = rows_keep pins k.0 path o.0 at.0 at.1;
+    } in
     let is = same_ok (record { name = n.0; role = k.0; ip = i.0; drain = dr.0; at = at.0 }) s at.2 in
     one_more (IsSignal (length pins)) Differ before s kept (subst (IsSignal (length pins)) is fine)
-      (each_map (λ (u : TableSignal). u.name ≢ n.0) (λ u. Differ u s) before (λ u e. subst (λ (x : TableSignal). Differ u x) is e) name.new)
+    (each_map (λ (u : TableSignal). u.name ≢ n.0) (λ u. Differ u s) before (λ u e. subst (λ (x : TableSignal). Differ u x) is e) name.new)
 
 pub signals_keep : (pins : List Pin) (path : List ℕ) (d : Data) (ss : List TableSignal) → list 0 2000 (signal pins) path d ≡ Ok ss → AreSignals (length pins) ss
 signals_keep pins path d ss h =
@@ -174,7 +187,8 @@ ip_name_keeps before path d name h =
     let f = fresh_new path (list_any (λ i. bytes_eq i.name w.0) before) w.0 name w.2 in
     let fine : IsIpName before w.0 = record {
       text = text_keeps path d w.0 w.1;
-      new = each_map (λ i. bytes_eq i.name w.0 ≡ false) (λ (i : Ip). i.name ≢ w.0) before (λ i e. differ i.name w.0 e) (none_passes (λ i. bytes_eq i.name w.0) before f.0) } in
+      new = each_map (λ i. bytes_eq i.name w.0 ≡ false) (λ (i : Ip). i.name ≢ w.0) before (λ i e. differ i.name w.0 e) (none_passes (λ i. bytes_eq i.name w.0) before f.0);
+    } in
     subst (IsIpName before) f.1 fine
 
 abbrev Marks : List (List ℕ) → Type 0
@@ -194,10 +208,11 @@ ip_keeps before path d i kept h =
       text = name.text;
       floor = may_keeps (λ (x : ℕ). x ≤ 168000000) (number_within 0 168000000) 0 (below path (codes "floor")) (get (codes "floor") o.0) f.0 (omega arith) (λ v e. (number_keeps 0 168000000 (below path (codes "floor")) v f.0 e).1) f.1;
       marks_few = marks.0;
-      marks = marks.1 } in
+      marks = marks.1;
+    } in
     let is = same_ok (record { name = n.0; clock48 = c.0; floor = f.0; marks = m.0 }) i m.2 in
     one_more IsIp DifferIps before i kept (subst IsIp is fine)
-      (each_map (λ (j : Ip). j.name ≢ n.0) (λ j. DifferIps j i) before (λ j e. subst (λ (x : Ip). DifferIps j x) is e) name.new)
+    (each_map (λ (j : Ip). j.name ≢ n.0) (λ j. DifferIps j i) before (λ j e. subst (λ (x : Ip). DifferIps j x) is e) name.new)
 
 pub ips_keep : (path : List ℕ) (d : Data) (is : List Ip) → list 0 64 ip path d ≡ Ok is → AreIps is
 ips_keep path d is h =

@@ -3,7 +3,7 @@ pub mod Json
 pub mod Lines
 pub mod Numbers
 pub mod PinText
-pub mod Placeable
+pub mod Placed
 pub mod Placement
 pub mod Project
 pub mod ProjectFaults

@@ -260,12 +260,17 @@ rows pins role.Input path d = optional no_rows [] path (codes "at") d
 rows pins role.Output path d = optional no_rows [] path (codes "at") d
 rows pins role.Exti path d = optional no_rows [] path (codes "at") d
 
--- a text that is not `-`, and that no signal before has
+-- a text that is not `-`
+unfoldable pub real_name : List ℕ → Data → Result (List ℕ) TableFault
+real_name path d = do
+  name ← text path d
+  must (BadField path) (not (bytes_eq name (codes "-"))) name
+
+-- a name that no signal before has
 unfoldable pub signal_name : List TableSignal → List ℕ → Data → Result (List ℕ) TableFault
 signal_name before path d = do
-  name ← text path d
-  named ← must (BadField path) (not (bytes_eq name (codes "-"))) name
-  fresh path (list_any (λ s. bytes_eq s.name named) before) named
+  name ← real_name path d
+  fresh path (list_any (λ s. bytes_eq s.name name) before) name
 
 unfoldable pub some_text : List ℕ → Data → Result (Option (List ℕ)) TableFault
 some_text path d = do
@@ -461,6 +466,20 @@ legal t = unless_illegal (reset_fault t) t
 
 -- ---- the whole
 
+-- the names of the signals of the oscillator's pins
+unfoldable pub hse_names : Data → Result (List ℕ × List ℕ) TableFault
+hse_names d = do
+  hse_in ← top text (codes "hse_in") d
+  hse_out ← top text (codes "hse_out") d
+  Ok (hse_in, hse_out)
+
+-- what the supply allows: the scales of the clock's list, and the flash ranges
+unfoldable pub supply : List ℕ → Data → Result (List Scale × List FlashRange) TableFault
+supply vos d = do
+  ss ← top (scales vos) (codes "scales") d
+  rs ← top (list 0 16 flash_range) (codes "flash") d
+  Ok (ss, rs)
+
 unfoldable pub table : Data → Result TableParts TableFault
 table d = do
   version ← top (number_within 1 1) (codes "version") d
@@ -468,15 +487,13 @@ table d = do
   parcel ← top text (codes "package") d
   pins ← top (list 0 144 pin) (codes "pins") d
   signals ← top (list 0 2000 (signal pins)) (codes "signals") d
-  hse_in ← top text (codes "hse_in") d
-  hse_out ← top text (codes "hse_out") d
+  hse ← hse_names d
   ips ← top (list 0 64 ip) (codes "ips") d
   clock ← clock d
   limits ← limits d
-  scales ← top (scales clock.vos) (codes "scales") d
-  flash ← top (list 0 16 flash_range) (codes "flash") d
+  power ← supply clock.vos d
   values ← defaults clock d
-  legal (record { names = names; «package» = parcel; pins = pins; signals = signals; hse_in = hse_in; hse_out = hse_out; ips = ips; clock = clock; limits = limits; scales = scales; flash = flash; defaults = values.0; hse_hz = values.1 })
+  legal (record { names = names; «package» = parcel; pins = pins; signals = signals; hse_in = hse.0; hse_out = hse.1; ips = ips; clock = clock; limits = limits; scales = power.0; flash = power.1; defaults = values.0; hse_hz = values.1 })
 
 unfoldable pub tables_of : List ℕ → Result TableParts TableFault
 tables_of bytes = do

@@ -2,6 +2,7 @@
 #![tactic(auto)]
 
 mod command;
+mod copy;
 mod fault;
 mod given;
 mod line;

@@ -1,6 +1,9 @@
-ghost use Rattle.std.specs.Prelude.{◌≡◌};
+ghost use Rattle.std.specs.Prelude.{◌≡◌, ◌≢◌, ◌<◌, Some, length, slice_get, option_map, IfSome, IfNone, IfOk};
+ghost use Rattle.res_model.specs.Table.{place};
 
-use res_base::{Items, Text};
+use crate::copy::copy_parts;
+use res_base::{Items, OutOfMemory, Text};
+use std::alloc::Global;
 use std::marker::Model;
 
 /// A pin of the package: its name, its port (0 for A to 8 for I) and its number on the port (0 to 15).
@@ -159,6 +162,8 @@ impl Model for Tables {
 }
 
 impl Tables {
+    ghost use Rattle.res_base.specs.Lists.{Each};
+    ghost use Rattle.res_model.specs.Table.{place};
     ghost use Rattle.res_model.specs.Valid.{IsValid};
 
     /// The table that says this.
@@ -182,4 +187,49 @@ impl Tables {
     {
         let _ = &self.parts;
     }
+
+    /// An equal table.
+    pub fn copy(&self, alloc: Global) -> Result<Tables, OutOfMemory>
+        ensures { IfOk result (λ t. t ≡ self.now) }
+    {
+        self.keeps_rules();
+        let parts = copy_parts(alloc, self.parts())?;
+        Ok(Tables::of(parts))
+    }
+
+    /// The place of the pin of this name in the list of pins; None where no pin has it.
+    pub fn pin_of(&self, name: &[u8]) -> Option<u8>
+        ensures place { result ≡ place self.now.pins name.now }
+        ensures within { IfSome result (λ i. i < length self.now.pins) }
+        ensures none { IfNone result (Each (λ p. p.name ≢ name.now) self.now.pins) }
+    {
+        self.keeps_rules();
+        match place_of(self.parts().pins.as_slice(), name) {
+            Some(place) => Some(place as u8),
+            None => None,
+        }
+    }
+
+    /// The port, 0 for A to 8 for I, and the number, 0 to 15, of the pin at this place of the list.
+    pub fn port_of(&self, pin: u8) -> (u8, u8)
+        requires { pin < length self.now.pins }
+        ensures pin { option_map (λ p. (p.port, p.number)) (slice_get self.now.pins pin) ≡ Some result }
+        ensures port { result.0 < 9 }
+        ensures number { result.1 < 16 }
+    {
+        self.keeps_rules();
+        let pins = self.parts().pins.as_slice();
+        let pin = &pins[usize::from(pin)];
+        (pin.port, pin.number)
+    }
+}
+
+/// The place of the pin of this name.
+#[tactic(auto, unfolding(crate::specs::Table::place))]
+fn place_of(pins: &[Pin], name: &[u8]) -> Option<usize>
+    ensures place { result ≡ place pins.now name.now }
+    ensures within { IfSome result (λ i. i < length pins.now) }
+{
+    pins.iter()
+        .position(|pin| pin.name.as_str().as_bytes() == name)
 }

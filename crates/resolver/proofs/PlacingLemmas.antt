@@ -12,7 +12,7 @@ use Rattle.choice_rank.proofs.ChoiceLemmas.{index_lt, index_same}
 use Rattle.choice_rank.specs.Least.{IsLeast, IsAnswer}
 use Rattle.pin_rules.specs.Sizes.{IsSized}
 use Rattle.pin_rules.proofs.SizeLemmas as sizes
-use Rattle.res_model.specs.Placeable.{IsPlaceable}
+use Rattle.res_model.specs.Placed.{IsPlaced}
 use Rattle.res_model.specs.Valid.{IsValid}
 use Rattle.res_model.specs.declared.project.Signal.{Signal}
 use Rattle.res_model.specs.declared.table.PinUse.{PinUse}
@@ -51,7 +51,7 @@ length_uses t [] at h = refl
 length_uses t (s ∷ ss) [] h = absurd h
 length_uses t (s ∷ ss) (a ∷ at) h = length-append (option_to_list (slice_get (values_of t s) a)) (uses_at (pin_values t ss) at) ∙ omega (arith, one (values_of t s) a h.0, length_uses t ss at h.1)
 
-pub each_sized : (t : TableParts) (ss : List Signal) → IsValid t → Each (IsPlaceable t) ss → Each (IsSized t) ss
+pub each_sized : (t : TableParts) (ss : List Signal) → IsValid t → Each (IsPlaced t) ss → Each (IsSized t) ss
 each_sized t [] valid h = tt
 each_sized t (s ∷ ss) valid h = (sizes.sized t s valid h.0, each_sized t ss valid h.1)
 

@@ -4,7 +4,7 @@ ghost use Rattle.std.specs.Option.{option_to_list};
 ghost use Rattle.res_base.specs.Lists.{Each};
 ghost use Rattle.choice_rank.specs.Choices.{IsChoice, IsNarrow, IsFirstWide, HasPositions, HasSmallSizes, choices_of, cost_of, index_of, rank_of};
 ghost use Rattle.choice_rank.specs.Least.{IsLeast, IsAnswer, NoneLegal};
-ghost use Rattle.res_model.specs.Placeable.{IsPlaceable, ArePlaceable};
+ghost use Rattle.res_model.specs.Placed.{IsPlaced};
 ghost use Rattle.res_model.specs.Placement.{meets_pins, uses_at, fits};
 ghost use Rattle.res_model.specs.PinText.{rank_line, pins_text};
 ghost use Rattle.res_model.specs.Valid.{IsValid};
@@ -194,7 +194,8 @@ fn too_wide(alloc: Global, variable: u16) -> Result<Answer, OutOfMemory>
 
 /// The least placement of signals, or why there is none.
 pub(crate) fn place(alloc: Global, t: &Tables, signals: &[Signal]) -> Result<Answer, OutOfMemory>
-    requires { ArePlaceable t.now signals.now }
+    requires few { length signals.now ≤ 160 }
+    requires each { Each (IsPlaced t.now) signals.now }
     ensures signals { IfOk result (λ a. OfSignals t.now signals.now a.status a.text.items) }
     ensures status { IfOk result (λ a. IsOfContents a.status) }
 {
@@ -216,7 +217,8 @@ pub(crate) fn place(alloc: Global, t: &Tables, signals: &[Signal]) -> Result<Ans
 
 /// That each signal has a value and not too many.
 fn are_sized(t: &Tables, signals: &[Signal])
-    requires { ArePlaceable t.now signals.now }
+    requires few { length signals.now ≤ 160 }
+    requires each { Each (IsPlaced t.now) signals.now }
     ensures sized { Each (IsSized t.now) signals.now }
     ensures few { length signals.now ≤ 170 }
     ensures positions { HasPositions (pin_variables t.now signals.now) }

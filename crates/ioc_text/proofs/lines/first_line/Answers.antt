@@ -1,4 +1,4 @@
-use Rattle.std.proofs.Common.{◌∙◌, sym, rules}
+use Rattle.std.proofs.Common.{◌∙◌, sym}
 use Rattle.ioc_text.proofs.Cuts.{one_line, line_and_more}
 use Rattle.ioc_text.proofs.lines.first_line.Goals as goal
 

@@ -1,4 +1,4 @@
-use Rattle.std.proofs.Common.{◌≡◌, [], map, drop}
+use Rattle.std.proofs.Common.{◌≡◌, [], length, map, drop}
 use Rattle.res_model.specs.Table.{entries_after, pin}
 use Rattle.serde_json.specs.View.{view}
 use Rattle.mcu_tables.specs.Places.{path_of}
@@ -7,4 +7,7 @@ use Rattle.mcu_tables.specs.declared.place.Key.TheVariants.{Pins}
 use Rattle.mcu_tables.proofs.pins.each_pin.Given as goal
 
 abbrev pub invariant-loop-value : goal.invariant-loop-value
-invariant-loop-value l = entries_after pin (path_of (Top Pins)) l.found.items (map view (drop l.value-index l.values)) ≡ entries_after pin (path_of (Top Pins)) [] (map view l.values)
+invariant-loop-value l = record {
+  counted : length l.found.items ≡ l.value-index;
+  read : entries_after pin (path_of (Top Pins)) l.found.items (map view (drop l.value-index l.values)) ≡ entries_after pin (path_of (Top Pins)) [] (map view l.values);
+}

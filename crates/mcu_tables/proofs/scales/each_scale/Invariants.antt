@@ -9,5 +9,5 @@ use Rattle.mcu_tables.proofs.scales.each_scale.Given as goal
 abbrev pub invariant-loop-value : goal.invariant-loop-value
 invariant-loop-value l = record {
   counted : length l.found.items ≡ l.value-index;
-  read : entries_after (scale l.vos) (path_of (Top Scales)) l.found.items (map view (drop l.value-index l.values)) ≡ entries_after (scale l.vos) (path_of (Top Scales)) [] (map view l.values)
+  read : entries_after (scale l.vos) (path_of (Top Scales)) l.found.items (map view (drop l.value-index l.values)) ≡ entries_after (scale l.vos) (path_of (Top Scales)) [] (map view l.values);
 }

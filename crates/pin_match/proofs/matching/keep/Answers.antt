@@ -1,4 +1,4 @@
-use Rattle.std.proofs.Common.{◌<◌, arith}
+use Rattle.std.proofs.Common.{length, ◌<◌, arith}
 use Rattle.pin_match.specs.Sets.{fits_in}
 use Rattle.pin_match.proofs.HallLemmas.{lost_paired, lost_fits}
 use Rattle.pin_match.proofs.matching.keep.Goals as goal
@@ -15,6 +15,6 @@ bounds-matching-resource c = below (goal.at.bounds-matching-resource c).In-Some
 
 pub loop-variable-preserved : goal.loop-variable-preserved
 loop-variable-preserved c = (
-  lost_paired c.args.variables c.args.resources c.loop-variable.matching c.loop-variable.invariant.0 c.loop-variable.variable c.in-Some.resource c.loop-variable-test.true c.in-Some.is,
-  lost_fits c.args.variables c.args.resources c.loop-variable.matching c.loop-variable.invariant.0 c.loop-variable.variable c.in-Some.resource c.loop-variable-test.true c.in-Some.is (fits_in c.args.sets.now) c.loop-variable.invariant.1,
+  lost_paired (length c.args.sets.now) c.args.resources c.loop-variable.matching c.loop-variable.invariant.0 c.loop-variable.variable c.in-Some.resource c.loop-variable-test.true c.in-Some.is,
+  lost_fits (length c.args.sets.now) c.args.resources c.loop-variable.matching c.loop-variable.invariant.0 c.loop-variable.variable c.in-Some.resource c.loop-variable-test.true c.in-Some.is (fits_in c.args.sets.now) c.loop-variable.invariant.1,
 )
