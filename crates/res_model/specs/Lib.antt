@@ -1,12 +1,17 @@
+pub mod Clock
+pub mod ClockText
 pub mod IocFaults
 pub mod Json
+pub mod Limits
 pub mod Lines
 pub mod Numbers
 pub mod PinText
 pub mod Placed
 pub mod Placement
+pub mod Power
 pub mod Project
 pub mod ProjectFaults
+pub mod Ranges
 pub mod Signals
 pub mod Steps
 pub mod Table

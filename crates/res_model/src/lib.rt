@@ -1,6 +1,7 @@
 //! The plain data that the crates share, and in specs/ the definitions of the domain that their contracts cite.
 #![tactic(auto)]
 
+mod clock;
 mod command;
 mod copy;
 mod fault;
@@ -9,6 +10,7 @@ mod line;
 mod project;
 mod table;
 
+pub use clock::{ClockBox, ClockChoice, Facts, Nodes, Range, Src};
 pub use command::{Command, Free, Opts};
 pub use fault::{IocFault, ProjectFault, TableFault, UsageFault};
 pub use given::{Flag, Given};
