@@ -1,0 +1,11 @@
+//! A machine for the registers that start an STM32F405/407 (RM0090): what a write, a read or an await does, which
+//! of them a rule forbids, and which states keep the limits of the table and the pins of the target.
+#![tactic(auto)]
+
+mod op;
+mod rule;
+mod state;
+mod step;
+
+pub use op::{Answer, Op, Stepped, Timeout};
+pub use state::{State, Target};
