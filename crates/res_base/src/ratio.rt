@@ -45,6 +45,20 @@ impl Ratio {
         self.num * other.den <= other.num * self.den
     }
 
+    /// Whether this is at most a whole number of any size.
+    pub fn at_most_whole(&self, n: u64) -> bool
+        ensures { result ≡ at_most self.now (whole n) }
+    {
+        self.num <= u128::from(n) * self.den
+    }
+
+    /// Whether this is at least a whole number of any size.
+    pub fn at_least_whole(&self, n: u64) -> bool
+        ensures { result ≡ at_most (whole n) self.now }
+    {
+        u128::from(n) * self.den <= self.num
+    }
+
     /// Whether both are the same number.
     pub fn equals(&self, other: &Ratio) -> bool
         ensures { IsTrue result ↔ Equals self.now other.now }

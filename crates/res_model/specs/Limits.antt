@@ -103,7 +103,7 @@ is_fed t f = f.osc_in && (nat_le (hse_bounds t f).0 f.hse_hz && nat_le f.hse_hz 
 -- the limits in ascending order, each with its number and whether the choice meets it
 unfoldable pub limits_of : TableParts → Facts → ClockChoice → List (ℕ × Bool)
 limits_of t f c =
-      (3, where_so (hse_used f c) (is_fed t f))
+    (3, where_so (hse_used f c) (is_fed t f))
     ∷ (4, where_so (pll_used f c) (are_within t.limits.vco_in (vco_in_of f c)))
     ∷ (5, where_so (pll_used f c) (are_within t.limits.vco (vco_of f c)))
     ∷ (6, at_most (sysclk_of f c) (whole t.limits.sysclk))

@@ -46,17 +46,17 @@ pub record Allowed : Type 0 where
 
 abbrev pub allowed : List (List ℕ) → ClockBox → Allowed
 allowed values b = record {
-    src = run_of values b 0;
-    psrc = run_of values b 1;
-    hpre = run_of values b 2;
-    p = run_of values b 3;
-    m = run_of values b 4;
-    n = run_of values b 5;
-    q = run_of values b 6;
-    ppre1 = run_of values b 7;
-    ppre2 = run_of values b 8;
-    vos = run_of values b 9
-  }
+  src = run_of values b 0;
+  psrc = run_of values b 1;
+  hpre = run_of values b 2;
+  p = run_of values b 3;
+  m = run_of values b 4;
+  n = run_of values b 5;
+  q = run_of values b 6;
+  ppre1 = run_of values b 7;
+  ppre2 = run_of values b 8;
+  vos = run_of values b 9;
+}
 
 -- each value of the choice is one of these
 pub record IsAllowed (c : ClockChoice) (a : Allowed) : Type 0 where
@@ -130,9 +130,9 @@ exactly x = record { least = x; most = x }
 -- the least range that has two others
 abbrev pub joined : Range → Range → Range
 joined r s = record {
-    least = if at_most r.least s.least then r.least else s.least;
-    most = if at_most r.most s.most then s.most else r.most
-  }
+  least = if at_most r.least s.least then r.least else s.least;
+  most = if at_most r.most s.most then s.most else r.most;
+}
 
 -- a range divided by each of these numbers, and multiplied by each
 abbrev pub divided : Range → List ℕ → Range
@@ -216,7 +216,7 @@ has_wish (Some wish) r = has r (whole wish)
 -- the limits in ascending order, each with its number and whether the ranges leave room for it
 unfoldable pub limits_over : TableParts → Facts → Allowed → List (ℕ × Bool)
 limits_over t f a =
-      (3, where_so (sure_hse f a) (is_fed t f))
+    (3, where_so (sure_hse f a) (is_fed t f))
     ∷ (4, where_so (sure_pll f a) (overlaps t.limits.vco_in (vco_in_range f a)))
     ∷ (5, where_so (sure_pll f a) (overlaps t.limits.vco (vco_range f a)))
     ∷ (6, at_most (sysclk_range f a).least (whole t.limits.sysclk))

@@ -1,0 +1,8 @@
+//! Wait states and scales: what the supply voltage and the voltage regulator allow (RM0090, embedded flash and PWR).
+#![tactic(auto)]
+
+mod flash;
+mod scales;
+
+pub use flash::{is_covered, least_wait, prefetch};
+pub use scales::{is_within_scale, scale_max};
