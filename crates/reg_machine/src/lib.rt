@@ -2,10 +2,12 @@
 //! of them a rule forbids, and which states keep the limits of the table and the pins of the target.
 #![tactic(auto)]
 
+mod machine;
 mod op;
 mod rule;
 mod state;
 mod step;
 
+pub use machine::Machine;
 pub use op::{Answer, Op, Stepped, Timeout};
 pub use state::{State, Target};
