@@ -1,0 +1,9 @@
+pub mod Awaits
+pub mod Legal
+pub mod Pins
+pub mod Reset
+pub mod Rules
+pub mod Run
+pub mod Step
+pub mod Tree
+pub mod Words

@@ -1,0 +1,13 @@
+//! A machine for the registers that start an STM32F405/407 (RM0090): what a write, a read or an await does, which
+//! of them a rule forbids, and which states keep the limits of the table and the pins of the target.
+#![tactic(auto)]
+
+mod machine;
+mod op;
+mod rule;
+mod state;
+mod step;
+
+pub use machine::Machine;
+pub use op::{Answer, Op, Stepped, Timeout};
+pub use state::{State, Target};

@@ -1,0 +1,108 @@
+ghost use Rattle.std.specs.Prelude.{◌≡◌};
+ghost use Rattle.reg_machine.specs.Reset.{reset_of};
+
+use crate::op::{Answer, Op, Stepped};
+use crate::state::{State, Target};
+use crate::step;
+use power_flash::prefetch;
+use reg_map::Reg;
+use res_base::OutOfMemory;
+use res_model::Tables;
+use std::alloc::Global;
+use std::marker::Model;
+
+/// The registers with a table and a target, which it keeps copies of.
+#[derive(Drop)]
+pub struct Machine {
+    tables: Tables,
+    want: Target,
+    state: State,
+}
+
+impl Model for Machine {
+    ghost use Rattle.std.specs.Prelude.{◌^◌, ◌<◌};
+    ghost use Rattle.reg_machine.specs.Reset.{View};
+    ghost use Rattle.reg_machine.specs.Words.{IsStored};
+
+    ghost Value = { View };
+
+    ghost view = { λ m. record { table = m.tables; want = m.want; state = m.state } };
+
+    ghost invariant = { λ m. IsStored m.state × (m.want.facts.hse_hz < 2 ^ 32) };
+}
+
+impl Machine {
+    ghost use Rattle.std.specs.Prelude.{◌≡◌, ◌^◌, ◌<◌, IfOk};
+    ghost use Rattle.reg_map.specs.Registers.{IsRegister};
+    ghost use Rattle.reg_machine.specs.Words.{IsOp, word_of};
+    ghost use Rattle.reg_machine.specs.Reset.{fresh};
+    ghost use Rattle.reg_machine.specs.Step.{step_of};
+
+    /// The machine after reset.
+    pub fn reset(alloc: Global, t: &Tables, want: &Target) -> Result<Machine, OutOfMemory>
+        requires { want.now.facts.hse_hz < 2 ^ 32 }
+        ensures { IfOk result (λ m. m ≡ fresh t.now want.now) }
+    {
+        let state = reset_state(t, want);
+        let tables = t.copy(alloc)?;
+        Ok(Machine {
+            tables,
+            want: *want,
+            state,
+        })
+    }
+
+    /// One step: the pending flags that the answer names come, and then the op is done or forbidden.
+    pub fn step(&mut self, op: &Op, a: Answer) -> Stepped
+        requires { IsOp op.now }
+        ensures step { (result, self.new.state) ≡ step_of self.old.state op.now a }
+        ensures table { self.new.table ≡ self.old.table }
+        ensures want { self.new.want ≡ self.old.want }
+    {
+        step::step(&mut self.state, op, a)
+    }
+
+    /// A register's word as it reads.
+    pub fn word(&self, r: Reg) -> u32
+        requires { IsRegister r }
+        ensures { result ≡ word_of self.now.state r }
+    {
+        step::word(&self.state, r)
+    }
+}
+
+fn reset_state(t: &Tables, want: &Target) -> State
+    ensures { result ≡ reset_of t.now want.now }
+{
+    State {
+        cr: 0x0000_0081,
+        pllcfgr: 0x2400_3010,
+        cfgr: 0,
+        acr: 0,
+        ahb1enr: 0x0010_0000,
+        ahb_read: 0,
+        apb1enr: 0,
+        apb_read: 0,
+        pwr_cr: 0x0000_4000,
+        gpio: [
+            0xA800_0000, 0, 0x0C00_0000, 0x6400_0000, 0, 0,
+            0x0000_0280, 0, 0x0000_00C0, 0x0000_0100, 0, 0,
+            0, 0, 0, 0, 0, 0,
+            0, 0, 0, 0, 0, 0,
+            0, 0, 0, 0, 0, 0,
+            0, 0, 0, 0, 0, 0,
+            0, 0, 0, 0, 0, 0,
+            0, 0, 0, 0, 0, 0,
+            0, 0, 0, 0, 0, 0,
+        ],
+        hse_ready: false,
+        pll_ready: false,
+        latency: 0,
+        source: 0,
+        acr_written: false,
+        polls: 0,
+        osc_in: want.facts.osc_in,
+        bypass: want.facts.bypass,
+        prefetch: prefetch(t, want.facts.vdd),
+    }
+}

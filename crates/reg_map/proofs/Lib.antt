@@ -1,0 +1,4 @@
+pub mod BitLemmas
+pub mod FieldLemmas
+pub mod RegisterLemmas
+pub mod ShiftLemmas
