@@ -1,2 +1,3 @@
 pub mod DueLemmas
+pub mod HomeLemmas
 pub mod PlacingLemmas

@@ -16,6 +16,7 @@ use Rattle.res_model.specs.Project.{project_of}
 use Rattle.res_model.specs.Table.{tables_of}
 use Rattle.res_model.specs.Values.{pin_values, pin_variables}
 use Rattle.res_model.specs.Words.{command_of}
+use Rattle.resolver.specs.HomeTree.{fixed, home_text}
 use Rattle.resolver.specs.Refusals.{words_refusal, table_refusal, text_refusal, project_refusal}
 
 -- the most bytes of an input
@@ -48,32 +49,44 @@ pub data OfSignals (t : TableParts) (ss : List Signal) : ℕ → List ℕ → Ty
   least : IsNarrow (pin_variables t ss) → (c : List ℕ) → IsLeast (pin_variables t ss) (legal_pins t ss) c → OfSignals t ss 0 (placement_text t ss c)
   none : IsNarrow (pin_variables t ss) → NoneLegal (pin_variables t ss) (legal_pins t ss) → OfSignals t ss 1 (codes "no choice" ++ 10 ∷ [])
 
--- the project of the lines
-abbrev pub OfLines : TableParts → List Line → Opts → ℕ → List ℕ → Type 0
-OfLines t ioc opts s x = MatchResult (project_of t ioc opts false) (λ p. OfSignals t p.signals s x) (λ f. Says s x 6 (project_refusal f))
+-- what a command does with a table and a project
+abbrev pub Task : Type 1
+Task = TableParts → Project → ℕ → List ℕ → Type 0
+
+-- the project of the lines, read under the options; clocks says that clock variables are in play
+abbrev pub OfLines : Opts → Bool → Task → TableParts → List Line → ℕ → List ℕ → Type 0
+OfLines opts clocks task t ioc s x = MatchResult (project_of t ioc opts clocks) (λ p. task t p s x) (λ f. Says s x 6 (project_refusal f))
 
 -- where the table is taken: the project's text, then the project
-abbrev pub OfTable : TableParts → List ℕ → Opts → ℕ → List ℕ → Type 0
-OfTable t project opts s x = MatchResult (ioc_of project) (λ ioc. OfLines t ioc opts s x) (λ f. Says s x 6 (text_refusal f))
+abbrev pub OfTable : Opts → Bool → Task → TableParts → List ℕ → ℕ → List ℕ → Type 0
+OfTable opts clocks task t project s x = MatchResult (ioc_of project) (λ ioc. OfLines opts clocks task t ioc s x) (λ f. Says s x 6 (text_refusal f))
 
-abbrev pub OfContents : List ℕ → List ℕ → Opts → ℕ → List ℕ → Type 0
-OfContents table project opts s x = MatchResult (tables_of table) (λ t. OfTable t project opts s x) (λ f. Says s x 5 (table_refusal f))
+abbrev pub OfContents : Opts → Bool → Task → List ℕ → List ℕ → ℕ → List ℕ → Type 0
+OfContents opts clocks task table project s x = MatchResult (tables_of table) (λ t. OfTable opts clocks task t project s x) (λ f. Says s x 5 (table_refusal f))
 
 -- both inputs are read whole before either is looked at
-abbrev pub OfBytes : List ℕ → List ℕ → List ℕ → List ℕ → Opts → ℕ → List ℕ → Type 0
-OfBytes tables_name project_name table project opts s x =
+abbrev pub OfBytes : List ℕ → List ℕ → Opts → Bool → Task → List ℕ → List ℕ → ℕ → List ℕ → Type 0
+OfBytes tables_name project_name opts clocks task table project s x =
     MatchBool (nat_lt most_bytes (length table)) (Says s x 4 (codes "too long: " ++ tables_name))
-    (MatchBool (nat_lt most_bytes (length project)) (Says s x 4 (codes "too long: " ++ project_name)) (OfContents table project opts s x))
+    (MatchBool (nat_lt most_bytes (length project)) (Says s x 4 (codes "too long: " ++ project_name)) (OfContents opts clocks task table project s x))
 
 -- nothing is claimed where a name has no bytes
-abbrev pub OfFiles : List ℕ → List ℕ → Option (List ℕ) → Option (List ℕ) → Opts → ℕ → List ℕ → Type 0
-OfFiles tables_name project_name None project opts s x = ⊤
-OfFiles tables_name project_name (Some table) None opts s x = ⊤
-OfFiles tables_name project_name (Some table) (Some project) opts s x = OfBytes tables_name project_name table project opts s x
+abbrev pub OfFiles : List ℕ → List ℕ → Opts → Bool → Task → Option (List ℕ) → Option (List ℕ) → ℕ → List ℕ → Type 0
+OfFiles tables_name project_name opts clocks task None project s x = ⊤
+OfFiles tables_name project_name opts clocks task (Some table) None s x = ⊤
+OfFiles tables_name project_name opts clocks task (Some table) (Some project) s x = OfBytes tables_name project_name opts clocks task table project s x
+
+-- `pins`: the least placement of the signals
+abbrev pub PinsTask : Task
+PinsTask t p s x = OfSignals t p.signals s x
+
+-- `tree`: the clock tree of the homes, which are fixed
+abbrev pub TreeTask : Opts → Task
+TreeTask opts t p s x = (s ≡ 0) × (x ≡ home_text t p opts)
 
 abbrev pub OfCommand : (List ℕ → Option (List ℕ)) → Command → ℕ → List ℕ → Type 0
-OfCommand files (Pins tables project opts) s x = OfFiles tables project (files tables) (files project) opts s x
-OfCommand files (Tree tables project opts) s x = Says s x 11 (codes "not built: tree")
+OfCommand files (Pins tables project opts) s x = OfFiles tables project opts false PinsTask (files tables) (files project) s x
+OfCommand files (Tree tables project opts) s x = OfFiles tables project (fixed opts) true (TreeTask (fixed opts)) (files tables) (files project) s x
 OfCommand files (Resolve tables project opts workers proof) s x = Says s x 11 (codes "not built: resolve")
 OfCommand files (Check tables project proof opts) s x = Says s x 11 (codes "not built: check")
 OfCommand files (Case number workers) s x = Says s x 11 (codes "not built: case")

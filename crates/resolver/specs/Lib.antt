@@ -1,3 +1,4 @@
 pub mod Due
+pub mod HomeTree
 pub mod Owed
 pub mod Refusals

@@ -9,7 +9,7 @@ use Rattle.res_model.specs.declared.command.Command.TheVariants.{Pins, Tree, Res
 use Rattle.res_model.specs.declared.command.Opts.{Opts}
 use Rattle.res_model.specs.declared.fault.UsageFault.{UsageFault}
 use Rattle.res_model.specs.Words.{command_of}
-use Rattle.resolver.specs.Due.{Due, OfCommand, OfFiles}
+use Rattle.resolver.specs.Due.{Due, OfCommand, OfFiles, Task}
 
 abbrev pub Files : Type 0
 Files = Option (List ℕ → Option (List ℕ))
@@ -41,9 +41,9 @@ TellsFor c None s x = ⊤
 TellsFor c (Some files) s x = OfCommand files c s x
 
 -- for two inputs, where their files are told
-abbrev pub TellsFiles : List ℕ → List ℕ → Files → Opts → ℕ → List ℕ → Type 0
-TellsFiles tables project None opts s x = ⊤
-TellsFiles tables project (Some files) opts s x = OfFiles tables project (files tables) (files project) opts s x
+abbrev pub TellsFiles : List ℕ → List ℕ → Opts → Bool → Task → Files → ℕ → List ℕ → Type 0
+TellsFiles tables project opts clocks task None s x = ⊤
+TellsFiles tables project opts clocks task (Some files) s x = OfFiles tables project opts clocks task (files tables) (files project) s x
 
 -- for words
 abbrev pub TellsDue : List (List ℕ) → Files → ℕ → List ℕ → Type 0

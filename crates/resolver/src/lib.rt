@@ -2,10 +2,12 @@
 #![tactic(auto)]
 
 mod answer;
+mod home_tree;
 mod pin_text;
 mod placing;
 mod reading;
 mod refusals;
+mod tasks;
 mod top;
 
 pub use top::{run, run_plain, run_surely};

@@ -8,6 +8,7 @@ ghost use Rattle.resolver.specs.Owed.{TellsFor, TellsDue, Settled, IsReadFault, 
 use crate::answer::{Answer, says};
 use crate::reading::of_files;
 use crate::refusals::refused_words;
+use crate::tasks::{PlacePins, ShowTree};
 use cmd_words::read_words;
 use res_base::OutOfMemory;
 use res_io::{Gate, Inputs, Sink, SureInputs, SureSink, write_all};
@@ -19,24 +20,34 @@ use std::thread::Threads;
 /// What is due for a command.
 fn of_command<I: Inputs>(
     alloc: Global,
-    command: &Command,
+    command: Command,
     inputs: &mut I,
 ) -> Result<Answer, OutOfMemory>
     ensures files { I.files inputs.new ≡ I.files inputs.old }
     ensures later { NoneFell (I.faults inputs.old) (I.faults inputs.new) }
     ensures status { IfOk result (λ a. IsOwn a.status) }
-    ensures due { IfOk result (λ a. a.status ≢ 3 → TellsFor command.now (I.files inputs.old) a.status a.text.items) }
-    ensures failed { IfOk result (λ a. a.status ≡ 3 → ReadFaultAt (inputs_of command.now) (I.faults inputs.old) (I.faults inputs.new) a.text.items) }
-    ensures too_long { IfOk result (λ a. a.status ≡ 4 → TooLongAt (inputs_of command.now) (I.current inputs.new) (I.taken inputs.new) a.text.items) }
-    ensures told { IfOk result (λ a. a.status ≢ 11 → IsToldAt (inputs_of command.now) (I.current inputs.new) (I.taken inputs.new) a.status) }
+    ensures due { IfOk result (λ a. a.status ≢ 3 → TellsFor command (I.files inputs.old) a.status a.text.items) }
+    ensures failed { IfOk result (λ a. a.status ≡ 3 → ReadFaultAt (inputs_of command) (I.faults inputs.old) (I.faults inputs.new) a.text.items) }
+    ensures too_long { IfOk result (λ a. a.status ≡ 4 → TooLongAt (inputs_of command) (I.current inputs.new) (I.taken inputs.new) a.text.items) }
+    ensures told { IfOk result (λ a. a.status ≢ 11 → IsToldAt (inputs_of command) (I.current inputs.new) (I.taken inputs.new) a.status) }
 {
     match command {
         Command::Pins {
             tables,
             project,
             opts,
-        } => of_files(alloc, inputs, tables.as_str(), project.as_str(), opts),
-        Command::Tree { .. } => says(alloc, 11, "not built: tree"),
+        } => {
+            let task = PlacePins::new(opts);
+            of_files(alloc, inputs, tables.as_str(), project.as_str(), &task)
+        }
+        Command::Tree {
+            tables,
+            project,
+            opts,
+        } => {
+            let task = ShowTree::new(opts);
+            of_files(alloc, inputs, tables.as_str(), project.as_str(), &task)
+        }
         Command::Resolve { .. } => says(alloc, 11, "not built: resolve"),
         Command::Check { .. } => says(alloc, 11, "not built: check"),
         Command::Case { .. } => says(alloc, 11, "not built: case"),
@@ -68,7 +79,7 @@ fn of_words<I: Inputs>(
     ensures told { IfOk result (λ a. IsToldIfServed (map string_bytes words.now) (I.current inputs.new) (I.taken inputs.new) a.status) }
 {
     match read_words(alloc, words) {
-        Ok(command) => of_command(alloc, &command, inputs),
+        Ok(command) => of_command(alloc, command, inputs),
         Err(fault) => refused_words(alloc, fault),
     }
 }
@@ -93,7 +104,7 @@ fn settle<I: Inputs>(
             if may_wait(&command) {
                 Ok(None)
             } else {
-                Ok(Some(of_command(alloc, &command, inputs)?))
+                Ok(Some(of_command(alloc, command, inputs)?))
             }
         }
         Err(fault) => Ok(Some(refused_words(alloc, fault)?)),
