@@ -1,8 +1,11 @@
 pub mod AcceptLemmas
 pub mod CanonLemmas
 pub mod CauseLemmas
+pub mod CutLemmas
+pub mod FormLemmas
 pub mod FromLemmas
 pub mod MadeLemmas
+pub mod NumberLemmas
 pub mod OneLemmas
 pub mod PlaceLemmas
 pub mod WayLemmas

@@ -4,7 +4,11 @@
 mod laws;
 mod make;
 mod node;
+mod read;
+mod write;
 
 pub use laws::{accounted_outcome_serves, canonical_is_one};
 pub use make::canonical;
-pub use node::{CheckFault, Node, Proof};
+pub use node::{CheckFault, Node, Proof, ProofFault};
+pub use read::read_proof;
+pub use write::write_proof;
