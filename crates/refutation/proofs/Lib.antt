@@ -1,4 +1,5 @@
 pub mod AcceptLemmas
+pub mod AgainLemmas
 pub mod CanonLemmas
 pub mod CauseLemmas
 pub mod CutLemmas
@@ -8,4 +9,6 @@ pub mod MadeLemmas
 pub mod NumberLemmas
 pub mod OneLemmas
 pub mod PlaceLemmas
+pub mod TellLemmas
+pub mod TreeLemmas
 pub mod WayLemmas

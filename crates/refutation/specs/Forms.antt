@@ -1,7 +1,7 @@
 -- What the line of a node says.
 use Rattle.std.specs.Prelude.{◌≡◌, ℕ, zero, suc, ◌+◌, ◌-◌, ◌≤◌, ◌<◌, ◌^◌, ◌==◌, ◌&&◌, nat_lt, List, [], ◌∷◌, ◌++◌, Bool, Option, Some, None, if◌then◌else◌}
 use Rattle.res_base.specs.declared.var_set.VarSet.{VarSet}
-use Rattle.res_base.specs.VarSet.{in_set, NoneFrom}
+use Rattle.res_base.specs.VarSet.{in_set, NoneFrom, IsWords}
 use Rattle.search_api.specs.declared.verdict.Class.{Class}
 use Rattle.search_api.specs.declared.verdict.Reason.{Reason}
 use Rattle.search_api.specs.declared.verdict.Reason.TheVariants as reason
@@ -73,3 +73,11 @@ FitsForm WitnessForm = Unit {0}
 abbrev pub FitsBound : Option ℕ → Type 0
 FitsBound None = Unit {0}
 FitsBound (Some rank) = rank < 2 ^ 63
+
+-- the set of a reason is one of three words, as the type of sets keeps it
+abbrev pub HasWords : Node → Type 0
+HasWords (node.Split variable after) = Unit {0}
+HasWords (node.Bad (reason.Hall class vars)) = IsWords vars
+HasWords (node.Bad (reason.Limit limit)) = Unit {0}
+HasWords node.Rank = Unit {0}
+HasWords node.Witness = Unit {0}

@@ -4,6 +4,7 @@ use Rattle.std.specs.List.{starts_with, slice_split}
 use Rattle.std.specs.Option.{option_map, option_map_or}
 use Rattle.std.specs.Str.{bytes_eq}
 use Rattle.std.specs.Str.Parse.{digits_value}
+use Rattle.res_base.specs.Lists.{Each}
 use Rattle.search_api.specs.declared.verdict.Class.{Class}
 use Rattle.search_api.specs.declared.verdict.Class.TheVariants as class
 use Rattle.refutation.specs.declared.node.ProofFault.{ProofFault}
@@ -128,6 +129,10 @@ proof_from number (l ∷ ls) =
 -- the bound and the nodes that a text spells, or its first line that is not of a form due there
 unfoldable pub proof_of : List ℕ → Result (Option ℕ × List Form) ProofFault
 proof_of text = proof_from 1 (lines_of text)
+
+-- a line that may stand before a proof: it has no end within, and is not a proof's first line
+abbrev pub IsPassedOver : List ℕ → Type 0
+IsPassedOver line = Each (λ (c : ℕ). (c == 10) ≡ false) line × (bytes_eq line (codes "proof 1") ≡ false)
 
 -- ---- what a reader answers. Want of memory is the one free answer
 abbrev pub Refuses : {Y : Type 0} → ProofFault → Result Y ProofFault → Type 0
