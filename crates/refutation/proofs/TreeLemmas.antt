@@ -8,9 +8,6 @@ use Rattle.refutation.specs.Trees.{Tree, BadLeaf, RankLeaf, WitnessLeaf, Fork, n
 use Rattle.refutation.specs.Forms.{Form, form_of, takes_up}
 use Rattle.refutation.proofs.FormLemmas.{append_nil}
 
-abbrev lines_of_nodes : List Node → List Form
-lines_of_nodes ns = map form_of ns
-
 lines_append : (ns ms : List Node) → map form_of (ns ++ ms) ≡ map form_of ns ++ map form_of ms
 lines_append [] ms = refl
 lines_append (n ∷ ns) ms = ap (λ fs. form_of n ∷ fs) (lines_append ns ms)
