@@ -1,8 +1,15 @@
 pub mod AcceptLemmas
+pub mod AgainLemmas
 pub mod CanonLemmas
 pub mod CauseLemmas
+pub mod CutLemmas
+pub mod FormLemmas
 pub mod FromLemmas
 pub mod MadeLemmas
+pub mod NumberLemmas
 pub mod OneLemmas
 pub mod PlaceLemmas
+pub mod TellLemmas
+pub mod TestLemmas
+pub mod TreeLemmas
 pub mod WayLemmas

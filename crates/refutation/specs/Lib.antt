@@ -1,4 +1,7 @@
 pub mod Canonical
+pub mod Forms
 pub mod Making
 pub mod Outcomes
+pub mod Reading
+pub mod Spelling
 pub mod Trees

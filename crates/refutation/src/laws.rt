@@ -1,11 +1,16 @@
 //! Laws of refutations: functions that do nothing, whose contracts are the laws.
-ghost use Rattle.std.specs.Prelude.{◌≡◌, ℕ, List, Option};
+ghost use Rattle.std.specs.Prelude.{◌≡◌, ℕ, ◌++◌, List, map, true, Option, Ok};
+ghost use Rattle.res_base.specs.Lists.{Each};
 ghost use Rattle.search_api.specs.declared.outcome.Closed.{Closed};
 ghost use Rattle.search_api.specs.Meaning.{Meaning};
 ghost use Rattle.search_api.specs.Accounts.{Accounted};
 ghost use Rattle.refutation.specs.declared.node.Node.{Node};
 ghost use Rattle.refutation.specs.Outcomes.{IsCovered, IsSound, IsOwned};
+ghost use Rattle.refutation.specs.Trees.{Tree, nodes_of};
 ghost use Rattle.refutation.specs.Canonical.{IsCanonicalOf};
+ghost use Rattle.refutation.specs.Forms.{Form, form_of, takes_up, FitsForm, FitsBound, HasWords};
+ghost use Rattle.refutation.specs.Spelling.{lines_text, spelling};
+ghost use Rattle.refutation.specs.Reading.{proof_of, IsPassedOver};
 
 /// One meaning and one bound have one canonical node list.
 pub fn canonical_is_one()
@@ -17,4 +22,19 @@ pub fn accounted_outcome_serves()
     ensures covered { (m : Meaning) (best : Option ℕ) (kept : List ℕ) (closed : List Closed) → Accounted m best kept closed → IsCovered m.shape best kept closed }
     ensures sound { (m : Meaning) (best : Option ℕ) (kept : List ℕ) (closed : List Closed) → Accounted m best kept closed → IsSound m kept closed }
     ensures owned { (m : Meaning) (best : Option ℕ) (kept : List ℕ) (closed : List Closed) → Accounted m best kept closed → IsOwned m closed }
+{}
+
+/// What was written is read again, also behind lines that are passed over.
+pub fn written_is_read()
+    ensures { (before : List (List ℕ)) (bound : Option ℕ) (forms : List Form) → Each IsPassedOver before → FitsBound bound → Each FitsForm forms → takes_up 1 forms ≡ true → proof_of (lines_text before ++ spelling bound forms) ≡ Ok (bound, forms) }
+{}
+
+/// The nodes of a tree make up one tree.
+pub fn tree_is_whole()
+    ensures { (tree : Tree) → takes_up 1 (map form_of (nodes_of tree)) ≡ true }
+{}
+
+/// Nodes that have the same lines are the same.
+pub fn lines_tell_nodes()
+    ensures { (nodes others : List Node) → Each HasWords nodes → Each HasWords others → map form_of nodes ≡ map form_of others → nodes ≡ others }
 {}

@@ -4,7 +4,16 @@
 mod laws;
 mod make;
 mod node;
+mod read;
+mod write;
 
-pub use laws::{accounted_outcome_serves, canonical_is_one};
+pub use laws::{
+    accounted_outcome_serves, canonical_is_one, lines_tell_nodes, tree_is_whole, written_is_read,
+};
 pub use make::canonical;
-pub use node::{CheckFault, Node, Proof};
+pub use node::{CheckFault, Node, Proof, ProofFault};
+pub use read::read_proof;
+pub use write::write_proof;
+
+#[cfg(test)]
+mod tests;

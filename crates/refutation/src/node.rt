@@ -1,5 +1,6 @@
-use res_base::Items;
+use res_base::{Items, OutOfMemory};
 use search_api::Reason;
+use std::alloc::{AllocError, AllocFailed};
 
 /// A node of a proof, which stands for a box.
 #[derive(Clone, Copy, Debug, PartialEq, Eq)]
@@ -32,4 +33,47 @@ pub enum CheckFault {
     Rejected { node: u32 },
     #[error("out of memory")]
     Memory,
+}
+
+/// Why a text is read as no proof.
+#[derive(Clone, Copy, Debug, PartialEq, Eq, thiserror::Error)]
+pub enum ProofFault {
+    /// The first line, from 1, that is not of a form due there, or one after the last line.
+    #[error("proof: line {line}")]
+    Line { line: u32 },
+    #[error("out of memory")]
+    Memory,
+}
+
+impl From<OutOfMemory> for ProofFault {
+    ghost use Rattle.std.specs.Prelude.{◌≡◌};
+    ghost use Rattle.refutation.specs.declared.node.ProofFault.TheVariants.{Memory};
+
+    ghost from_gives = { λ _ e. e ≡ Memory };
+
+    fn from(_e: OutOfMemory) -> ProofFault {
+        ProofFault::Memory
+    }
+}
+
+impl From<AllocError> for ProofFault {
+    ghost use Rattle.std.specs.Prelude.{◌≡◌};
+    ghost use Rattle.refutation.specs.declared.node.ProofFault.TheVariants.{Memory};
+
+    ghost from_gives = { λ _ e. e ≡ Memory };
+
+    fn from(_e: AllocError) -> ProofFault {
+        ProofFault::Memory
+    }
+}
+
+impl<T: Drop> From<AllocFailed<T>> for ProofFault {
+    ghost use Rattle.std.specs.Prelude.{◌≡◌};
+    ghost use Rattle.refutation.specs.declared.node.ProofFault.TheVariants.{Memory};
+
+    ghost from_gives = { λ _ e. e ≡ Memory };
+
+    fn from(_e: AllocFailed<T>) -> ProofFault {
+        ProofFault::Memory
+    }
 }
