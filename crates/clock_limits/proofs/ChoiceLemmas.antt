@@ -28,7 +28,7 @@ most_is false need false true x e = subst (λ (n : Bool). where_so true (most_wh
 -- the limits, with the nodes of the PLL that may be absent
 abbrev pub by_nodes : TableParts → Facts → ClockChoice → Nodes → List (ℕ × Bool)
 by_nodes t f c n =
-      (3, where_so (hse_used f c) (is_fed t f))
+    (3, where_so (hse_used f c) (is_fed t f))
     ∷ (4, within_where_there t.limits.vco_in n.vco_in)
     ∷ (5, within_where_there t.limits.vco n.vco)
     ∷ (6, at_most n.sysclk (whole t.limits.sysclk))

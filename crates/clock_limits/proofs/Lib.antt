@@ -1,1 +1,11 @@
 pub mod ChoiceLemmas
+pub mod FairLemmas
+pub mod FractionLemmas
+pub mod LeastLemmas
+pub mod RangeLemmas
+pub mod RoomLemmas
+pub mod SayLemmas
+pub mod ShownLemmas
+pub mod SingleLemmas
+pub mod SizeLemmas
+pub mod SpreadLemmas

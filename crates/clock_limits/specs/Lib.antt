@@ -1,2 +1,5 @@
 pub mod Fair
+pub mod Laws
 pub mod Numbered
+pub mod Room
+pub mod Runs

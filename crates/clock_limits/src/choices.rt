@@ -4,7 +4,9 @@ ghost use Rattle.res_model.specs.Clock.{AreFacts, IsInRange};
 ghost use Rattle.res_model.specs.Limits.{limits_of, broken_limit};
 ghost use Rattle.clock_limits.specs.Numbered.{numbered, within_where_there, exactly_where_there, most_where_there};
 
-use crate::numbers::{MHZ_48, are_within, first_broken, is_as_wished, is_exactly, is_fed, where_so};
+use crate::numbers::{
+    MHZ_48, are_within, first_broken, is_as_wished, is_exactly, is_fed, where_so,
+};
 use clock_tree::{hse_used, nodes};
 use power_flash::{is_covered, is_within_scale};
 use res_base::Ratio;

@@ -1,8 +1,14 @@
 //! The limits of the clock tree: the least that a choice breaks, and the least that no choice in a box can meet.
 #![tactic(auto)]
 
+mod boxes;
 mod choices;
+mod laws;
 mod numbers;
+mod ranges;
+mod runs;
 
+pub use boxes::range_broken;
 pub use choices::broken;
+pub use laws::{broken_is_least, one_choice_is_exact, shown_alone_is_broken, shown_is_broken, shown_is_least, tests_are_right};
 pub use res_model::{ClockBox, ClockChoice, Facts};

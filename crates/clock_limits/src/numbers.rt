@@ -42,7 +42,11 @@ pub(crate) fn is_as_wished(wish: Option<u64>, x: &Ratio) -> bool
 fn hse_bounds(t: &TableParts, f: &Facts) -> (u64, u64)
     ensures { result ≡ hse_bounds t.now f.now }
 {
-    if f.bypass { t.limits.bypass } else { t.limits.crystal }
+    if f.bypass {
+        t.limits.bypass
+    } else {
+        t.limits.crystal
+    }
 }
 
 /// Whether the HSE can be used.

@@ -1,6 +1,7 @@
 //! A project: its signals with their homes, the homes of its clock variables and its marks, read from the lines of its text.
 #![tactic(auto)]
 
+mod clocks;
 mod domains;
 mod homes;
 mod marks;
@@ -11,6 +12,7 @@ mod project;
 mod signals;
 mod values;
 
+pub use clocks::facts;
 pub use project::read_project;
 pub use res_model::{Home, Project, ProjectFault, Pull, Signal, Speed};
 

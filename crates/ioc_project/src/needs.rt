@@ -1,5 +1,6 @@
 ghost use Rattle.std.specs.Prelude.{◌≡◌, ◌≤◌, ◌+◌, length, IfOk};
-ghost use Rattle.res_model.specs.Project.{capped, need_of, known_need, needs_from, signal_named, few};
+ghost use Rattle.res_model.specs.Signals.{signal_named};
+ghost use Rattle.res_model.specs.Project.{capped, need_of, known_need, needs_from, few};
 ghost use Rattle.res_model.specs.ProjectFaults.{Gives};
 ghost use Rattle.res_model.specs.Steps.{with_front};
 

@@ -2,7 +2,8 @@ ghost use Rattle.std.specs.Prelude.{◌≡◌, ◌==◌, ◌++◌, ◌<◌, ◌�
 ghost use Rattle.std.specs.List.{list_any, starts_with};
 ghost use Rattle.std.specs.Option.{option_copied};
 ghost use Rattle.res_model.specs.Lines.{line_at};
-ghost use Rattle.res_model.specs.Project.{truth_of, pull_of, speed_of, value_or, is_virtual, pin_line_at, is_some_of, is_taken, place_of, place_for, signal_named, signal_given, name_given, is_misplaced, candidate, signal_of, with_pin, signals_after};
+ghost use Rattle.res_model.specs.Signals.{signal_named};
+ghost use Rattle.res_model.specs.Project.{truth_of, pull_of, speed_of, value_or, is_virtual, pin_line_at, is_some_of, is_taken, place_of, place_for, signal_given, name_given, is_misplaced, candidate, signal_of, with_pin, signals_after};
 ghost use Rattle.res_model.specs.ProjectFaults.{Gives};
 ghost use Rattle.res_model.specs.declared.project.Pull.TheVariants.{None as NoPull};
 ghost use Rattle.res_model.specs.declared.project.Speed.TheVariants.{Low};
@@ -43,7 +44,7 @@ fn place_of(t: &TableParts, name: &[u8]) -> Option<usize>
 }
 
 /// The table's signal of a name.
-#[tactic(auto, unfolding(res_model::specs::Project::signal_named))]
+#[tactic(auto, unfolding(res_model::specs::Signals::signal_named))]
 pub(crate) fn signal_named<'t>(t: &'t TableParts, name: &[u8]) -> Option<&'t TableSignal>
     ensures { option_copied result ≡ signal_named t.now name.now }
 {

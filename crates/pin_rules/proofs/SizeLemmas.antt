@@ -13,9 +13,8 @@ use Rattle.res_model.specs.declared.table.Role.{Role}
 use Rattle.res_model.specs.declared.table.Role.TheVariants.{Alt, Input, Output, Analog, Exti, Osc}
 use Rattle.res_model.specs.declared.table.TableParts.{TableParts}
 use Rattle.res_model.specs.declared.table.TableSignal.{TableSignal}
-use Rattle.res_model.specs.Placed.{IsPlaced, HasRowAt, is_held, rows_in, rows_named, rows_of as rows_held}
-use Rattle.res_model.specs.Project.{signal_named}
-use Rattle.res_model.specs.Signals.{signal_of, rows_of, role_mode, own_mode}
+use Rattle.res_model.specs.Placed.{IsPlaced, HasRowAt, is_held, rows_named, rows_placed}
+use Rattle.res_model.specs.Signals.{signal_named, rows_of, role_mode, own_mode}
 use Rattle.res_model.specs.Valid.{IsValid, IsSignal, HasRowsDue}
 use Rattle.res_model.specs.Values.{is_at, rows_at, rows_elsewhere, use_at, placed, values_from, values_of}
 use Rattle.pin_rules.specs.Sizes.{IsSized}
@@ -40,9 +39,9 @@ found_passes {X} p (x ∷ xs) = case (p x) refl (found_passes p xs)
 
 -- what is asked of a signal, in words of the signal that its name finds
 record IsPlaceable (t : TableParts) (s : Signal) : Type 0 where
-  known : (s.name ≡ codes "-") ⊎ IsSome (signal_of t s.name)
-  placed : MatchOption s.home (rows_of (signal_of t s.name) ≢ []) (λ home. Unit {0})
-  stays : IsTrue s.locked → rows_of (signal_of t s.name) ≢ [] → IfSome s.home (λ home. IsTrue (list_any (is_at home) (rows_of (signal_of t s.name))))
+  known : (s.name ≡ codes "-") ⊎ IsSome (signal_named t s.name)
+  placed : MatchOption s.home (rows_of (signal_named t s.name) ≢ []) (λ home. Unit {0})
+  stays : IsTrue s.locked → rows_of (signal_named t s.name) ≢ [] → IfSome s.home (λ home. IsTrue (list_any (is_at home) (rows_of (signal_named t s.name))))
 
 record Fits16 (us : List PinUse) : Type 0 where
   some : 1 ≤ length us
@@ -156,35 +155,24 @@ stays_at name rows (Some place) dash h some = case (bytes_eq name (codes "-")) r
       | inr y ↦ y
     ]
 
--- two spellings of the rows of a signal
-same_in : (s : Option TableSignal) → rows_in s ≡ rows_of s
-same_in None = refl
-same_in (Some s) = refl
-
-same_rows : (s : Signal) (found : Option TableSignal) → MatchOption s.home (rows_in found ≢ []) (λ home. Unit {0}) → MatchOption s.home (rows_of found ≢ []) (λ home. Unit {0})
-same_rows s found h = subst (λ (us : List PinUse). MatchOption s.home (us ≢ []) (λ home. Unit {0})) (same_in found) h
-
-same_stays : (s : Signal) (found : Option TableSignal) → IfSome s.home (HasRowAt (cond (bytes_eq s.name (codes "-")) [] (rows_in found))) → IfSome s.home (HasRowAt (cond (bytes_eq s.name (codes "-")) [] (rows_of found)))
-same_stays s found h = subst (λ (us : List PinUse). IfSome s.home (HasRowAt (cond (bytes_eq s.name (codes "-")) [] us))) (same_in found) h
-
 is_placeable : (t : TableParts) (s : Signal) → IsValid t → IsPlaced t s → IsPlaceable t s
-unfolding signal_of is_held signal_named rows_named rows_held
+unfolding signal_named is_held rows_named rows_placed
 is_placeable t s valid p =
     let found : Option TableSignal = find (λ x. bytes_eq x.name s.name) t.signals in
     let is : MatchOption found (Unit {0}) (IsSignal (length t.pins)) = each_find (IsSignal (length t.pins)) (λ x. bytes_eq x.name s.name) t.signals valid.signals.each in
     let passes : MatchOption found (Unit {0}) (λ x. bytes_eq x.name s.name ≡ true) = found_passes (λ x. bytes_eq x.name s.name) t.signals in
     record {
       known = held_or s.name found p.named;
-      placed = same_rows s found (need_rows s (length t.pins) (rows_in found) p.needed p.at_home);
-      stays = λ l. stays_at s.name (rows_of found) s.home (not_held (length t.pins) s.name found is passes) (same_stays s found (p.stays l));
+      placed = need_rows s (length t.pins) (rows_of found) p.needed p.at_home;
+      stays = λ l. stays_at s.name (rows_of found) s.home (not_held (length t.pins) s.name found is passes) (p.stays l);
     }
 
 pub sized : (t : TableParts) (s : Signal) → IsValid t → IsPlaced t s → IsSized t s
-unfolding signal_of values_of
+unfolding signal_named values_of
 sized t s valid p =
     let placeable = is_placeable t s valid p in
     let found : Option TableSignal = find (λ x. bytes_eq x.name s.name) t.signals in
     let is : MatchOption found (Unit {0}) (IsSignal (length t.pins)) = each_find (IsSignal (length t.pins)) (λ x. bytes_eq x.name s.name) t.signals valid.signals.each in
     let fits : Fits16 (values_from (rows_of found) (own_mode s.name found) s.locked s.home) =
-        from_sized (own_mode s.name found) s.locked (rows_of found) s.home (own_some (length t.pins) s.name found placeable.known is) (rows_few (length t.pins) found is) placeable.placed placeable.stays in
+    from_sized (own_mode s.name found) s.locked (rows_of found) s.home (own_some (length t.pins) s.name found placeable.known is) (rows_few (length t.pins) found is) placeable.placed placeable.stays in
     record { some = fits.some; few = fits.few }

@@ -1,7 +1,7 @@
 ghost use Rattle.std.specs.Prelude.{◌≡◌, ◌↔◌, List, [], ◌∷◌, ◌++◌, not, filter, length, option_map, Contains, IfOk, IsTrue};
 ghost use Rattle.std.specs.List.{list_any};
 ghost use Rattle.std.specs.Option.{option_copied, option_map_or};
-ghost use Rattle.res_model.specs.Signals.{signal_of, rows_of, role_mode, own_mode, Can, CanUse};
+ghost use Rattle.res_model.specs.Signals.{signal_named, rows_of, role_mode, own_mode, Can, CanUse};
 ghost use Rattle.res_model.specs.Values.{is_at, rows_at, rows_elsewhere, use_at, placed, values_from, values_of, home_costs, costs_from, costs_of};
 
 use choice_rank::Costs;
@@ -10,9 +10,9 @@ use res_model::{Mode, PinUse, Role, Signal, TableParts, TableSignal, Tables};
 use std::alloc::{AllocError, Global};
 
 /// The signal of the table with this name.
-#[tactic(auto, unfolding(res_model::specs::Signals::signal_of))]
-fn signal_of<'t>(t: &'t TableParts, name: &[u8]) -> Option<&'t TableSignal>
-    ensures { option_copied result ≡ signal_of t.now name.now }
+#[tactic(auto, unfolding(res_model::specs::Signals::signal_named))]
+fn signal_named<'t>(t: &'t TableParts, name: &[u8]) -> Option<&'t TableSignal>
+    ensures { option_copied result ≡ signal_named t.now name.now }
 {
     t.signals
         .as_slice()
@@ -113,7 +113,7 @@ pub fn candidates(alloc: Global, t: &Tables, s: &Signal) -> Result<Vec<PinUse>, 
     ensures { IfOk result (λ v. v.items ≡ values_of t.now s.now) }
 {
     let name = s.name.as_str().as_bytes();
-    let signal = signal_of(t.parts(), name);
+    let signal = signal_named(t.parts(), name);
     let rows = rows_of(signal);
     match s.home {
         None => Ok(Vec::from_slice(alloc, rows)?),
@@ -133,7 +133,7 @@ fn is_at(rows: &[PinUse], pin: u8) -> bool
 pub fn costs(t: &Tables, s: &Signal) -> Costs
     ensures { result ≡ costs_of t.now s.now }
 {
-    let signal = signal_of(t.parts(), s.name.as_str().as_bytes());
+    let signal = signal_named(t.parts(), s.name.as_str().as_bytes());
     costs_from(rows_of(signal), s.home)
 }
 
@@ -155,7 +155,7 @@ fn costs_from(rows: &[PinUse], home: Option<u8>) -> Costs
 pub fn can(t: &Tables, name: &str, at: PinUse) -> bool
     ensures { IsTrue result ↔ Can t.now name.now at }
 {
-    let signal = signal_of(t.parts(), name.as_bytes());
+    let signal = signal_named(t.parts(), name.as_bytes());
     can_use(rows_of(signal), own_mode(name.as_bytes(), signal), at)
 }
 

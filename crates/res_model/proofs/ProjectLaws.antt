@@ -12,8 +12,9 @@ use Rattle.res_base.proofs.SumLemmas.{bool_cases}
 use Rattle.res_model.specs.Lines.{line_at}
 use Rattle.res_model.specs.Numbers.{number_of, number_up_to}
 use Rattle.res_model.specs.ProjectFaults.{Gives}
-use Rattle.res_model.specs.Placed.{is_held, rows_named, rows_of, HasRowAt, IsPlaced, IsRead}
-use Rattle.res_model.specs.Project.{place_of, place_for, known_pin, free_place, is_taken, signal_named, known_signal, signal_given, name_given, is_misplaced, candidate, signal_of, with_pin, is_virtual, signals_after, known_need, need_of, needs_from, few, hertz_of, value_or, well_formed, hse_of, homes_of, in_domains, domain_tests, all_within, fixes_clock, fixes_signals, part_of, kept_of, pin_lines, marks_of, pin_line_at, truth_of, pull_of, speed_of, project_of, capped}
+use Rattle.res_model.specs.Placed.{is_held, rows_named, rows_placed, HasRowAt, IsPlaced, IsRead}
+use Rattle.res_model.specs.Signals.{signal_named}
+use Rattle.res_model.specs.Project.{place_of, place_for, known_pin, free_place, is_taken, known_signal, signal_given, name_given, is_misplaced, candidate, signal_of, with_pin, is_virtual, signals_after, known_need, need_of, needs_from, few, hertz_of, value_or, well_formed, hse_of, homes_of, in_domains, domain_tests, all_within, fixes_clock, fixes_signals, part_of, kept_of, pin_lines, marks_of, pin_line_at, truth_of, pull_of, speed_of, project_of, capped}
 use Rattle.res_model.specs.Steps.{◌>>=◌}
 use Rattle.res_model.specs.declared.command.Opts.{Opts}
 use Rattle.res_model.specs.declared.fault.ProjectFault.{ProjectFault}
@@ -103,8 +104,8 @@ placed_rows rows place e = elim (bool_cases (eqb (length rows) 0)) [
   ]
 ]
 
-stays_given : (t : TableParts) (locked : Bool) (place : ℕ) (given : Option (ℕ × TableSignal)) → IsOf t given → candidate locked place given ≡ Ok tt → locked ≡ true → HasRowAt (rows_of t (name_given given)) place
-unfolding is_held rows_of rows_named is_misplaced
+stays_given : (t : TableParts) (locked : Bool) (place : ℕ) (given : Option (ℕ × TableSignal)) → IsOf t given → candidate locked place given ≡ Ok tt → locked ≡ true → HasRowAt (rows_placed t (name_given given)) place
+unfolding is_held rows_placed rows_named is_misplaced
 stays_given t locked place None h e l = inl refl
 stays_given t locked place (Some s) h e l = elim (bool_cases (bytes_eq s.1.name (codes "-"))) [
   | inl held ↦ rw held (inl refl)

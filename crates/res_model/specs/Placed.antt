@@ -3,7 +3,8 @@ use Rattle.std.specs.Prelude.{◌≡◌, ℕ, ◌<◌, ◌≤◌, ◌^◌, ◌==
 use Rattle.std.specs.List.{list_any}
 use Rattle.std.specs.Str.{bytes_eq}
 use Rattle.res_base.specs.Lists.{Each}
-use Rattle.res_model.specs.Project.{signal_named, domain_tests, all_within, fixes_clock}
+use Rattle.res_model.specs.Signals.{signal_named, rows_of}
+use Rattle.res_model.specs.Project.{domain_tests, all_within, fixes_clock}
 use Rattle.res_model.specs.declared.command.Opts.{Opts}
 use Rattle.res_model.specs.declared.project.Project.{Project}
 use Rattle.res_model.specs.declared.project.Signal.{Signal}
@@ -15,17 +16,13 @@ use Rattle.res_model.specs.declared.table.TableSignal.{TableSignal}
 unfoldable pub is_held : List ℕ → Bool
 is_held name = bytes_eq name (codes "-")
 
-abbrev pub rows_in : Option TableSignal → List PinUse
-rows_in None = []
-rows_in (Some s) = s.at
-
 -- the rows of the table's signal of a name
 unfoldable pub rows_named : TableParts → List ℕ → List PinUse
-rows_named t name = rows_in (signal_named t name)
+rows_named t name = rows_of (signal_named t name)
 
 -- the rows of a name; a pin that is only held has none
-unfoldable pub rows_of : TableParts → List ℕ → List PinUse
-rows_of t name = if is_held name then [] else rows_named t name
+unfoldable pub rows_placed : TableParts → List ℕ → List PinUse
+rows_placed t name = if is_held name then [] else rows_named t name
 
 -- where there are rows, one of them is at the place
 abbrev pub HasRowAt : List PinUse → ℕ → Type 0
@@ -39,7 +36,7 @@ pub record IsPlaced (t : TableParts) (s : Signal) : Type 0 where
   -- any other signal has a home in the pin list
   pub at_home : s.need ≡ false → IsSomeAnd s.home (λ h. h < length t.pins)
   -- a locked signal with rows has one at its home
-  pub stays : s.locked ≡ true → IfSome s.home (HasRowAt (rows_of t s.name))
+  pub stays : s.locked ≡ true → IfSome s.home (HasRowAt (rows_placed t s.name))
 
 pub record IsRead (t : TableParts) (opts : Opts) (clocks : Bool) (p : Project) : Type 0 where
   pub few : length p.signals ≤ 160

@@ -5,6 +5,7 @@ use Rattle.std.specs.Ordering.{nat_cmp}
 use Rattle.std.specs.BTreeMap.{insert_entry}
 use Rattle.std.specs.Str.{bytes_eq}
 use Rattle.res_model.specs.Lines.{line_at, pin_number}
+use Rattle.res_model.specs.Signals.{signal_named}
 use Rattle.res_model.specs.Numbers.{number_of, number_up_to}
 use Rattle.res_model.specs.Steps.{◌>>=◌}
 use Rattle.res_model.specs.declared.command.Free.{Free}
@@ -125,10 +126,6 @@ pin_lines ioc = map (λ (e : ℕ × Line). e.1) (numbered [] ioc)
 -- the place of a pin in the table
 unfoldable pub place_of : TableParts → List ℕ → Option ℕ
 place_of t name = position (λ (p : Pin). bytes_eq p.name name) t.pins
-
--- the table's signal of a name
-unfoldable pub signal_named : TableParts → List ℕ → Option TableSignal
-signal_named t name = find (λ (s : TableSignal). bytes_eq s.name name) t.signals
 
 abbrev pub known_pin : ℕ → Option ℕ → Result ℕ ProjectFault
 known_pin n None = Err (UnknownPin n)

@@ -11,8 +11,8 @@ use Rattle.res_model.specs.declared.table.TableSignal.{TableSignal}
 use Rattle.res_model.specs.declared.table.TableParts.{TableParts}
 
 -- the signal of a name
-unfoldable pub signal_of : TableParts → List ℕ → Option TableSignal
-signal_of t name = find (λ s. bytes_eq s.name name) t.signals
+unfoldable pub signal_named : TableParts → List ℕ → Option TableSignal
+signal_named t name = find (λ s. bytes_eq s.name name) t.signals
 
 -- the rows of a signal; a signal that is not there has none
 abbrev pub rows_of : Option TableSignal → List PinUse
@@ -38,4 +38,4 @@ CanUse [] own u = own ≡ Some u.mode
 CanUse (row ∷ rows) own u = Contains (row ∷ rows) u
 
 abbrev pub Can : TableParts → List ℕ → PinUse → Type 0
-Can t name u = CanUse (rows_of (signal_of t name)) (own_mode name (signal_of t name)) u
+Can t name u = CanUse (rows_of (signal_named t name)) (own_mode name (signal_named t name)) u

@@ -24,6 +24,13 @@ use Rattle.res_model.specs.declared.table.TableParts.{TableParts}
 use Rattle.serde_json.specs.Data.{Data}
 use Rattle.serde_json.specs.Find.{get, as_str, as_bool}
 
+-- what is read of a value at a path, or its fault; and of an entry, after those before it
+abbrev pub Form : Type 0 → Type 0
+Form X = List ℕ → Data → Result X TableFault
+
+abbrev pub EntryForm : Type 0 → Type 0
+EntryForm X = List X → Form X
+
 -- ---- paths and faults
 
 -- the path of a part below a path, as in `/clock/hpre/0`
@@ -42,40 +49,40 @@ must fault holds x = if holds then Ok x else Err fault
 -- ---- members
 
 -- a member that has to be there
-abbrev pub need : {X : Type 0} → (List ℕ → Data → Result X TableFault) → List ℕ → Option Data → Result X TableFault
+abbrev pub need : {X : Type 0} → Form X → List ℕ → Option Data → Result X TableFault
 need form path found = do
   d ← due (Missing path) found
   form path d
 
 -- a member that may be absent; null is not absent
-abbrev pub may : {X : Type 0} → (List ℕ → Data → Result X TableFault) → X → List ℕ → Option Data → Result X TableFault
+abbrev pub may : {X : Type 0} → Form X → X → List ℕ → Option Data → Result X TableFault
 may form absent path None = Ok absent
 may form absent path (Some d) = form path d
 
 -- the member of the object at this path
-abbrev pub member : {X : Type 0} → (List ℕ → Data → Result X TableFault) → List ℕ → List ℕ → Data → Result X TableFault
+abbrev pub member : {X : Type 0} → Form X → List ℕ → List ℕ → Data → Result X TableFault
 member form path key d = need form (below path key) (get key d)
 
-abbrev pub optional : {X : Type 0} → (List ℕ → Data → Result X TableFault) → X → List ℕ → List ℕ → Data → Result X TableFault
+abbrev pub optional : {X : Type 0} → Form X → X → List ℕ → List ℕ → Data → Result X TableFault
 optional form absent path key d = may form absent (below path key) (get key d)
 
 -- a member of the table
-abbrev pub top : {X : Type 0} → (List ℕ → Data → Result X TableFault) → List ℕ → Data → Result X TableFault
+abbrev pub top : {X : Type 0} → Form X → List ℕ → Data → Result X TableFault
 top form key d = member form [] key d
 
 -- a member of a member of the table, which is missing too where the outer one is absent or no object
-abbrev pub nested : {X : Type 0} → (List ℕ → Data → Result X TableFault) → List ℕ → List ℕ → Data → Result X TableFault
+abbrev pub nested : {X : Type 0} → Form X → List ℕ → List ℕ → Data → Result X TableFault
 nested form group key d = need form (below (below [] group) key) (inside group key d)
 
 -- ---- forms of a member
 
-unfoldable pub text : List ℕ → Data → Result (List ℕ) TableFault
+unfoldable pub text : Form (List ℕ)
 text path d = due (BadField path) (word d)
 
-unfoldable pub flag : List ℕ → Data → Result Bool TableFault
+unfoldable pub flag : Form Bool
 flag path d = due (BadField path) (as_bool d)
 
-unfoldable pub object : List ℕ → Data → Result Data TableFault
+unfoldable pub object : Form Data
 object path d = must (BadField path) (is_object d) d
 
 -- an object, where it is there
@@ -83,19 +90,19 @@ unfoldable pub object_if_there : List ℕ → Option Data → Result ⊤ TableFa
 object_if_there path None = Ok tt
 object_if_there path (Some d) = must (BadField path) (is_object d) tt
 
-unfoldable pub number_within : ℕ → ℕ → List ℕ → Data → Result ℕ TableFault
+unfoldable pub number_within : ℕ → ℕ → Form ℕ
 number_within low high path d = do
   n ← due (BadField path) (number d)
   must (BadField path) (nat_le low n && nat_le n high) n
 
 -- one of these numbers
-unfoldable pub number_among : List ℕ → List ℕ → Data → Result ℕ TableFault
+unfoldable pub number_among : List ℕ → Form ℕ
 number_among these path d = do
   n ← due (BadField path) (number d)
   due (BadField path) (find (λ x. x == n) these)
 
 -- a least and a greatest number within a range
-unfoldable pub pair_within : ℕ → ℕ → List ℕ → Data → Result (ℕ × ℕ) TableFault
+unfoldable pub pair_within : ℕ → ℕ → Form (ℕ × ℕ)
 pair_within low high path d = do
   ds ← due (BadField path) (two d)
   m ← due (BadField path) (number ds.0)
@@ -103,20 +110,20 @@ pair_within low high path d = do
   must (BadField path) (nat_le low m && nat_le m n && nat_le n high) (m, n)
 
 -- the entries, each judged after those before it
-abbrev pub entries_after : {X : Type 0} → (List X → List ℕ → Data → Result X TableFault) → List ℕ → List X → List Data → Result (List X) TableFault
+abbrev pub entries_after : {X : Type 0} → EntryForm X → List ℕ → List X → List Data → Result (List X) TableFault
 entries_after entry path before [] = Ok before
 entries_after entry path before (d ∷ ds) = do
   x ← entry before (below path (decimal (length before))) d
   entries_after entry path (before ++ x ∷ []) ds
 
 -- so many entries at least and at most
-unfoldable pub counted : ℕ → ℕ → List ℕ → Data → Result (List Data) TableFault
+unfoldable pub counted : ℕ → ℕ → Form (List Data)
 counted least most path d = do
   ds ← due (BadField path) (entries d)
   must (BadField path) (nat_le least (length ds) && nat_le (length ds) most) ds
 
 -- a list of so many entries
-unfoldable pub list : {X : Type 0} → ℕ → ℕ → (List X → List ℕ → Data → Result X TableFault) → List ℕ → Data → Result (List X) TableFault
+unfoldable pub list : {X : Type 0} → ℕ → ℕ → EntryForm X → Form (List X)
 list least most entry path d = do
   ds ← counted least most path d
   entries_after entry path [] ds
@@ -127,10 +134,10 @@ list least most entry path d = do
 abbrev pub fresh : {X : Type 0} → List ℕ → Bool → X → Result X TableFault
 fresh path repeated x = if repeated then Err (Repeated path) else Ok x
 
-unfoldable pub any_text : List (List ℕ) → List ℕ → Data → Result (List ℕ) TableFault
+unfoldable pub any_text : EntryForm (List ℕ)
 any_text before path d = text path d
 
-unfoldable pub distinct_text : List (List ℕ) → List ℕ → Data → Result (List ℕ) TableFault
+unfoldable pub distinct_text : EntryForm (List ℕ)
 distinct_text before path d = do
   name ← text path d
   fresh path (list_any (λ x. bytes_eq x name) before) name
@@ -143,26 +150,26 @@ is_above_last (Some m) n = nat_lt m n
 abbrev pub is_above : List ℕ → ℕ → Bool
 is_above before n = is_above_last (slice_get before (length before - 1)) n
 
-unfoldable pub above : List ℕ → List ℕ → Data → Result ℕ TableFault
+unfoldable pub above : EntryForm ℕ
 above before path d = do
   n ← due (BadField path) (number d)
   must (BadField path) (is_above before n) n
 
 -- the next of an ascending list within these numbers
-unfoldable pub next_among : List ℕ → List ℕ → List ℕ → Data → Result ℕ TableFault
+unfoldable pub next_among : List ℕ → EntryForm ℕ
 next_among these before path d = do
   n ← number_among these path d
   must (BadField path) (is_above before n) n
 
 -- an ascending list within these numbers, with at least one
-unfoldable pub some_among : List ℕ → List ℕ → Data → Result (List ℕ) TableFault
+unfoldable pub some_among : List ℕ → Form (List ℕ)
 some_among these path d = do
   ds ← due (BadField path) (entries d)
   ns ← entries_after (next_among these) path [] ds
   must (BadField path) (nat_lt 0 (length ns)) ns
 
 -- an ascending list within these numbers, with 1 in it
-unfoldable pub one_among : List ℕ → List ℕ → Data → Result (List ℕ) TableFault
+unfoldable pub one_among : List ℕ → Form (List ℕ)
 one_among these path d = do
   ds ← due (BadField path) (entries d)
   ns ← entries_after (next_among these) path [] ds
@@ -202,7 +209,7 @@ spot name = None
 abbrev pub is_same_pin : List ℕ → ℕ × ℕ → Pin → Bool
 is_same_pin name place p = bytes_eq p.name name || (p.port == place.0 && p.number == place.1)
 
-unfoldable pub pin : List Pin → List ℕ → Data → Result Pin TableFault
+unfoldable pub pin : EntryForm Pin
 pin before path d = do
   name ← text path d
   place ← due (BadField path) (spot name)
@@ -223,7 +230,7 @@ role_of w =
     (if bytes_eq w (codes "exti") then Some role.Exti else
     (if bytes_eq w (codes "osc") then Some role.Osc else None)))))
 
-unfoldable pub use_form : List ℕ → Data → Result Role TableFault
+unfoldable pub use_form : Form Role
 use_form path d = due (BadField path) (option_and_then role_of (as_str d))
 
 -- a pin's name, as its place
@@ -237,7 +244,7 @@ row before path named m = do
   fresh path (list_any (λ u. u.pin == p) before) (record { pin = p; mode = m })
 
 -- a row of a pin's name and a number 0 to 15
-unfoldable pub alt_row : List Pin → List PinUse → List ℕ → Data → Result PinUse TableFault
+unfoldable pub alt_row : List Pin → EntryForm PinUse
 alt_row pins before path d = do
   ds ← due (BadField path) (two d)
   p ← due (BadField path) (pin_named pins ds.0)
@@ -245,14 +252,14 @@ alt_row pins before path d = do
   row before path (Some p) (mode.Alt n)
 
 -- a row of a pin's name alone
-unfoldable pub pin_row : List Pin → Mode → List PinUse → List ℕ → Data → Result PinUse TableFault
+unfoldable pub pin_row : List Pin → Mode → EntryForm PinUse
 pin_row pins m before path d = row before path (pin_named pins d) m
 
 -- the member must not be there
-unfoldable pub no_rows : List ℕ → Data → Result (List PinUse) TableFault
+unfoldable pub no_rows : Form (List PinUse)
 no_rows path d = Err (BadField path)
 
-unfoldable pub rows : List Pin → Role → List ℕ → Data → Result (List PinUse) TableFault
+unfoldable pub rows : List Pin → Role → Form (List PinUse)
 rows pins role.Alt path d = member (list 1 16 (alt_row pins)) path (codes "at") d
 rows pins role.Osc path d = member (list 1 16 (pin_row pins mode.Osc)) path (codes "at") d
 rows pins role.Analog path d = optional (list 0 16 (pin_row pins mode.Analog)) [] path (codes "at") d
@@ -261,23 +268,23 @@ rows pins role.Output path d = optional no_rows [] path (codes "at") d
 rows pins role.Exti path d = optional no_rows [] path (codes "at") d
 
 -- a text that is not `-`
-unfoldable pub real_name : List ℕ → Data → Result (List ℕ) TableFault
+unfoldable pub real_name : Form (List ℕ)
 real_name path d = do
   name ← text path d
   must (BadField path) (not (bytes_eq name (codes "-"))) name
 
 -- a name that no signal before has
-unfoldable pub signal_name : List TableSignal → List ℕ → Data → Result (List ℕ) TableFault
+unfoldable pub signal_name : List TableSignal → Form (List ℕ)
 signal_name before path d = do
   name ← real_name path d
   fresh path (list_any (λ s. bytes_eq s.name name) before) name
 
-unfoldable pub some_text : List ℕ → Data → Result (Option (List ℕ)) TableFault
+unfoldable pub some_text : Form (Option (List ℕ))
 some_text path d = do
   w ← text path d
   Ok (Some w)
 
-unfoldable pub signal : List Pin → List TableSignal → List ℕ → Data → Result TableSignal TableFault
+unfoldable pub signal : List Pin → EntryForm TableSignal
 signal pins before path d = do
   o ← object path d
   name ← member (signal_name before) path (codes "name") o
@@ -295,15 +302,15 @@ need48_of w =
     (if bytes_eq w (codes "exact") then Some Exact else
     (if bytes_eq w (codes "most") then Some Most else None))
 
-unfoldable pub clock48_form : List ℕ → Data → Result Need48 TableFault
+unfoldable pub clock48_form : Form Need48
 clock48_form path d = due (BadField path) (option_and_then need48_of (as_str d))
 
-unfoldable pub ip_name : List Ip → List ℕ → Data → Result (List ℕ) TableFault
+unfoldable pub ip_name : List Ip → Form (List ℕ)
 ip_name before path d = do
   name ← text path d
   fresh path (list_any (λ i. bytes_eq i.name name) before) name
 
-unfoldable pub ip : List Ip → List ℕ → Data → Result Ip TableFault
+unfoldable pub ip : EntryForm Ip
 ip before path d = do
   o ← object path d
   name ← member (ip_name before) path (codes "name") o
@@ -353,7 +360,7 @@ limits d = do
 -- ---- scales
 
 -- the scale that is due, and its greatest HCLK
-unfoldable pub scale : List ℕ → List Scale → List ℕ → Data → Result Scale TableFault
+unfoldable pub scale : List ℕ → EntryForm Scale
 scale vos before path d = do
   o ← object path d
   number ← member (number_within (slice_index vos (length before)) (slice_index vos (length before))) path (codes "vos") o
@@ -361,7 +368,7 @@ scale vos before path d = do
   Ok (record { vos = number; max = max })
 
 -- one for each scale of the clock's list, in its order
-abbrev pub scales : List ℕ → List ℕ → Data → Result (List Scale) TableFault
+abbrev pub scales : List ℕ → Form (List Scale)
 scales vos path d = list (length vos) (length vos) (scale vos) path d
 
 -- ---- flash
@@ -370,17 +377,17 @@ scales vos path d = list (length vos) (length vos) (scale vos) path d
 abbrev pub is_after : List FlashRange → ℕ → Bool
 is_after before n = is_above_last (option_map (λ r. r.to) (slice_get before (length before - 1))) n
 
-unfoldable pub flash_from : List FlashRange → List ℕ → Data → Result ℕ TableFault
+unfoldable pub flash_from : List FlashRange → Form ℕ
 flash_from before path d = do
   n ← due (BadField path) (number d)
   must (BadField path) (is_after before n) n
 
-unfoldable pub flash_to : ℕ → List ℕ → Data → Result ℕ TableFault
+unfoldable pub flash_to : ℕ → Form ℕ
 flash_to from path d = do
   n ← due (BadField path) (number d)
   must (BadField path) (nat_le from n) n
 
-unfoldable pub flash_range : List FlashRange → List ℕ → Data → Result FlashRange TableFault
+unfoldable pub flash_range : EntryForm FlashRange
 flash_range before path d = do
   o ← object path d
   from ← member (flash_from before) path (codes "from") o
@@ -401,10 +408,10 @@ source_of w =
 unfoldable pub pll_source_of : List ℕ → Option ℕ
 pll_source_of w = if bytes_eq w (codes "HSI") then Some 0 else (if bytes_eq w (codes "HSE") then Some 1 else None)
 
-unfoldable pub source_form : List ℕ → Data → Result ℕ TableFault
+unfoldable pub source_form : Form ℕ
 source_form path d = due (BadField path) (option_and_then source_of (as_str d))
 
-unfoldable pub pll_source_form : List ℕ → Data → Result ℕ TableFault
+unfoldable pub pll_source_form : Form ℕ
 pll_source_form path d = due (BadField path) (option_and_then pll_source_of (as_str d))
 
 -- src and psrc

@@ -8,7 +8,7 @@ use Rattle.res_model.specs.declared.project.Signal.{Signal}
 use Rattle.res_model.specs.declared.table.Mode.{Mode}
 use Rattle.res_model.specs.declared.table.PinUse.{PinUse}
 use Rattle.res_model.specs.declared.table.TableParts.{TableParts}
-use Rattle.res_model.specs.Signals.{signal_of, rows_of, own_mode}
+use Rattle.res_model.specs.Signals.{signal_named, rows_of, own_mode}
 
 abbrev pub is_at : ℕ → PinUse → Bool
 is_at pin u = u.pin == pin
@@ -37,7 +37,7 @@ values_from rows own locked None = rows
 values_from rows own locked (Some home) = placed rows own locked home
 
 unfoldable pub values_of : TableParts → Signal → List PinUse
-values_of t s = values_from (rows_of (signal_of t s.name)) (own_mode s.name (signal_of t s.name)) s.locked s.home
+values_of t s = values_from (rows_of (signal_named t s.name)) (own_mode s.name (signal_named t s.name)) s.locked s.home
 
 -- leaving the home costs 1; a signal whose home is no value pays 1 wherever it goes; a need pays nothing
 abbrev pub home_costs : List PinUse → ℕ → Costs
@@ -49,7 +49,7 @@ costs_from rows None = AllZero
 costs_from rows (Some home) = home_costs rows home
 
 unfoldable pub costs_of : TableParts → Signal → Costs
-costs_of t s = costs_from (rows_of (signal_of t s.name)) s.home
+costs_of t s = costs_from (rows_of (signal_named t s.name)) s.home
 
 -- a signal is a variable with a position for each of its values
 abbrev pub variable_of : TableParts → Signal → VarShape

@@ -8,4 +8,7 @@ mod reading;
 mod refusals;
 mod top;
 
-pub use top::{run, run_plain};
+pub use top::{run, run_plain, run_surely};
+
+#[cfg(test)]
+mod tests;

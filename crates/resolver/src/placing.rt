@@ -72,11 +72,7 @@ fn variables_of(
 }
 
 /// The values at the positions, one for each signal.
-fn uses_at(
-    alloc: Global,
-    values: &[Items<PinUse>],
-    at: &[u16],
-) -> Result<Vec<PinUse>, OutOfMemory>
+fn uses_at(alloc: Global, values: &[Items<PinUse>], at: &[u16]) -> Result<Vec<PinUse>, OutOfMemory>
     ensures { IfOk result (λ us. us.items ≡ uses_at values.now at.now) }
 {
     let count = values.len().min(at.len());
@@ -130,7 +126,13 @@ fn placement_text(
 {
     let uses = uses_at(alloc, values, at)?;
     let mut out = Vec::new(alloc);
-    put_rank_line(alloc, &mut out, shape.rank(at), shape.cost(at), shape.choices())?;
+    put_rank_line(
+        alloc,
+        &mut out,
+        shape.rank(at),
+        shape.cost(at),
+        shape.choices(),
+    )?;
     put_pins_text(alloc, &mut out, t.parts(), signals, uses.as_slice())?;
     Ok(out)
 }

@@ -16,12 +16,7 @@ use res_model::{Opts, Tables};
 use std::alloc::Global;
 
 /// What is due for the lines of a project under a table.
-fn of_lines(
-    alloc: Global,
-    tables: &Tables,
-    opts: &Opts,
-    ioc: &Ioc,
-) -> Result<Answer, OutOfMemory>
+fn of_lines(alloc: Global, tables: &Tables, opts: &Opts, ioc: &Ioc) -> Result<Answer, OutOfMemory>
     ensures lines { IfOk result (λ a. OfLines tables.now ioc.now opts.now a.status a.text.items) }
     ensures status { IfOk result (λ a. IsOfContents a.status) }
 {

@@ -38,9 +38,7 @@ pub(crate) fn refused_text(alloc: Global, fault: IocFault) -> Result<Answer, Out
     ensures { IfOk result (λ a. (fault ≢ IocFault.Memory) × Says a.status a.text.items 6 (text_refusal fault)) }
 {
     match fault {
-        IocFault::LongLine { line } => {
-            counts(alloc, 6, "project: long line ", u64::from(line))
-        }
+        IocFault::LongLine { line } => { counts(alloc, 6, "project: long line ", u64::from(line)) }
         IocFault::NoEquals { line } => {
             counts(alloc, 6, "project: no equals line ", u64::from(line))
         }
@@ -69,11 +67,7 @@ pub(crate) fn refused_project(alloc: Global, fault: ProjectFault) -> Result<Answ
 }
 
 /// What is said of an input that was not read.
-pub(crate) fn unread(
-    alloc: Global,
-    fault: ReadFault,
-    name: &str,
-) -> Result<Answer, OutOfMemory>
+pub(crate) fn unread(alloc: Global, fault: ReadFault, name: &str) -> Result<Answer, OutOfMemory>
     ensures failed { fault ≡ ReadFault.Failed → IfOk result (λ a. Says a.status a.text.items 3 (codes "read failed: " ++ name.now)) }
     ensures too_long { fault ≡ ReadFault.TooLong → IfOk result (λ a. Says a.status a.text.items 4 (codes "too long: " ++ name.now)) }
     ensures memory { fault ≡ ReadFault.Memory → IsErr result }

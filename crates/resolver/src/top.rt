@@ -10,7 +10,7 @@ use crate::reading::of_files;
 use crate::refusals::refused_words;
 use cmd_words::read_words;
 use res_base::OutOfMemory;
-use res_io::{Gate, Inputs, Sink, write_all};
+use res_io::{Gate, Inputs, Sink, SureInputs, SureSink, write_all};
 use res_model::Command;
 use std::alloc::Global;
 use std::sync::Wait;
@@ -134,6 +134,19 @@ pub fn run_plain<I: Inputs, K: Sink>(
         Ok(None) => None,
         Err(_) => Some(9),
     }
+}
+
+/// The same over inputs and a sink that never fail: no answer tells of a failed read or write.
+pub fn run_surely(
+    alloc: Global,
+    words: &[String],
+    inputs: &mut SureInputs,
+    out: &mut SureSink,
+) -> Option<u8>
+    ensures no_read_fault { result ≢ Some 3 }
+    ensures no_write_fault { result ≢ Some 8 }
+{
+    run_plain(alloc, words, inputs, out)
 }
 
 /// Does all that the program does, and answers the status. The whole text is made before its first byte is written.

@@ -1,0 +1,45 @@
+-- The laws of limits.
+use Rattle.std.specs.Prelude.{◌≡◌, ℕ, ◌<◌, ◌≤◌, Bool, true, false, not, ◌⊎◌, List, Option, Some, None}
+use Rattle.res_model.specs.declared.clock.ClockBox.{ClockBox}
+use Rattle.res_model.specs.declared.clock.ClockChoice.{ClockChoice}
+use Rattle.res_model.specs.declared.clock.Facts.{Facts}
+use Rattle.res_model.specs.declared.table.TableParts.{TableParts}
+use Rattle.res_model.specs.Clock.{IsBetween}
+use Rattle.res_model.specs.Limits.{TestsTell, meets_limit, broken_limit}
+use Rattle.res_model.specs.Ranges.{AreInRange, IsClockBox, IsIn, IsOnePlace, shows_limit, shown_limit, stands_alone}
+
+-- a limit that is shown for a box is broken by each choice in it, or the wish for HCLK is
+abbrev pub ShownIsBroken : Type 0
+ShownIsBroken =
+    (t : TableParts) (f : Facts) (values : List (List ℕ)) (b : ClockBox) (k : ℕ) → AreInRange values → IsClockBox values b
+    → shows_limit t f values b k ≡ true → (c : ClockChoice) → IsIn c values b → meets_limit t f c 14 ≡ true → meets_limit t f c k ≡ false
+
+-- a limit whose range does not rest on the wish, or any limit where there is no wish, is broken by each choice
+abbrev pub ShownAloneIsBroken : Type 0
+ShownAloneIsBroken =
+    (t : TableParts) (f : Facts) (values : List (List ℕ)) (b : ClockBox) (k : ℕ) → AreInRange values → IsClockBox values b
+    → shows_limit t f values b k ≡ true → (stands_alone k ≡ true) ⊎ (f.hclk ≡ None) → (c : ClockChoice) → IsIn c values b → meets_limit t f c k ≡ false
+
+-- on a box with one choice, what is shown is what the choice breaks
+abbrev pub OneChoiceIsExact : Type 0
+OneChoiceIsExact =
+    (t : TableParts) (f : Facts) (values : List (List ℕ)) (b : ClockBox) → AreInRange values → IsClockBox values b → IsOnePlace b
+    → (c : ClockChoice) → IsIn c values b → shown_limit t f values b ≡ broken_limit t f c
+
+-- each test tells whether its sentence holds
+abbrev pub TestsAreRight : Type 0
+TestsAreRight = (t : TableParts) (f : Facts) (c : ClockChoice) → TestsTell t f c
+
+-- where no limit is broken each is met; else the least that is broken is not met, and each below it is
+abbrev pub IsLeastBroken : (ℕ → Bool) → Option ℕ → Type 0
+IsLeastBroken met None = (j : ℕ) → met j ≡ true
+IsLeastBroken met (Some k) = IsBetween 3 16 k × (met k ≡ false) × ((j : ℕ) → j < k → met j ≡ true)
+
+abbrev pub BrokenIsLeast : Type 0
+BrokenIsLeast = (t : TableParts) (f : Facts) (c : ClockChoice) → IsLeastBroken (meets_limit t f c) (broken_limit t f c)
+
+-- what is shown is the least that is shown
+abbrev pub ShownIsLeast : Type 0
+ShownIsLeast =
+    (t : TableParts) (f : Facts) (values : List (List ℕ)) (b : ClockBox)
+    → IsLeastBroken (λ k. not (shows_limit t f values b k)) (shown_limit t f values b)

@@ -1,0 +1,84 @@
+//! The values at the positions of a box.
+ghost use Rattle.std.specs.Prelude.{◌≡◌, ◌<◌, ◌==◌, length, map};
+ghost use Rattle.std.specs.List.{list_all};
+ghost use Rattle.res_model.specs.Ranges.{IsRun, IsClockBox, run_of, allowed, least_of, greatest_of};
+ghost use Rattle.clock_limits.specs.Runs.{seen};
+
+use res_model::ClockBox;
+
+/// For each clock variable its values in a box.
+#[derive(Clone, Copy)]
+pub(crate) struct Runs<'v> {
+    pub(crate) src: &'v [u16],
+    pub(crate) psrc: &'v [u16],
+    pub(crate) hpre: &'v [u16],
+    pub(crate) p: &'v [u16],
+    pub(crate) m: &'v [u16],
+    pub(crate) n: &'v [u16],
+    pub(crate) q: &'v [u16],
+    pub(crate) ppre1: &'v [u16],
+    pub(crate) ppre2: &'v [u16],
+    pub(crate) vos: &'v [u16],
+}
+
+/// The values of the clock variable of this number.
+fn run<'v>(values: &'v [Vec<u16>], b: &ClockBox, k: usize) -> &'v [u16]
+    requires place { k < 10 }
+    requires ten { length values.now ≡ 10 }
+    requires inside { IsRun (map (λ v. v.items) values.now) b.now k }
+    ensures { result.now ≡ run_of (map (λ v. v.items) values.now) b.now k }
+{
+    let low = b.lo[k] as usize;
+    let high = b.hi[k] as usize;
+    &values[k].as_slice()[low..high + 1]
+}
+
+impl<'v> Runs<'v> {
+    /// The values of each clock variable.
+    pub(crate) fn of(values: &'v [Vec<u16>], b: &ClockBox) -> Runs<'v>
+        requires { IsClockBox (map (λ v. v.items) values.now) b.now }
+        ensures { seen result ≡ allowed (map (λ v. v.items) values.now) b.now }
+    {
+        Runs {
+            src: run(values, b, 0),
+            psrc: run(values, b, 1),
+            hpre: run(values, b, 2),
+            p: run(values, b, 3),
+            m: run(values, b, 4),
+            n: run(values, b, 5),
+            q: run(values, b, 6),
+            ppre1: run(values, b, 7),
+            ppre2: run(values, b, 8),
+            vos: run(values, b, 9),
+        }
+    }
+}
+
+/// The least and the greatest of some values.
+#[derive(Clone, Copy)]
+pub(crate) struct Span {
+    pub(crate) least: u16,
+    pub(crate) most: u16,
+}
+
+impl Span {
+    pub(crate) fn of(values: &[u16]) -> Span
+        requires { 0 < length values.now }
+        ensures least { result.least ≡ least_of values.now }
+        ensures most { result.most ≡ greatest_of values.now }
+    {
+        let mut least = values[0];
+        let mut most = values[0];
+        for v in values {
+            least = least.min(*v);
+            most = most.max(*v);
+        }
+        Span { least, most }
+    }
+}
+
+pub(crate) fn all_are(values: &[u16], source: u16) -> bool
+    ensures { result ≡ list_all (λ s. s == source) values.now }
+{
+    values.iter().all(|s| *s == source)
+}

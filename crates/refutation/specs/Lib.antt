@@ -1,0 +1,4 @@
+pub mod Canonical
+pub mod Making
+pub mod Outcomes
+pub mod Trees

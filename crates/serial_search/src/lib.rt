@@ -1,0 +1,9 @@
+//! One worker's search for the least legal choice, depth first.
+#![tactic(auto)]
+
+mod walk;
+
+pub use walk::search;
+
+#[cfg(test)]
+mod tests;
