@@ -1,5 +1,6 @@
 //! Flash rows.
-ghost use Rattle.std.specs.Prelude.{◌≡◌, ℕ, ◌≤◌, length, IfSome, IfNone, option_copied};
+ghost use Rattle.std.specs.Prelude.{◌≡◌, ℕ, ◌≤◌, ◌&&◌, length, nat_lt, slice_index, IfSome, IfNone, option_copied};
+ghost use Rattle.res_base.specs.Fraction.{at_most, whole};
 ghost use Rattle.std.specs.List.{position_from};
 ghost use Rattle.res_model.specs.Power.{has_supply, range_at, rows_of_range, flash_rows, range_prefetches, is_covered_by, is_covered, wait_of, RowCovers};
 
@@ -72,6 +73,15 @@ pub fn is_covered(t: &Tables, vdd: u32, hclk: &Ratio) -> bool
     ensures { result ≡ is_covered t.now vdd hclk.now }
 {
     least_wait(t, vdd, hclk).is_some()
+}
+
+/// Whether the row of these wait states is there, and covers HCLK at this supply voltage in millivolts.
+pub fn row_covers(t: &Tables, vdd: u32, wait: u8, hclk: &Ratio) -> bool
+    ensures { result ≡ (nat_lt wait (length (flash_rows t.now vdd)) && at_most hclk.now (whole (slice_index (flash_rows t.now vdd) wait))) }
+{
+    let rows = flash_rows(t, vdd);
+    let wait = usize::from(wait);
+    wait < rows.len() && hclk.at_most_whole(rows[wait])
 }
 
 /// Whether the supply voltage in millivolts is in a flash range that allows prefetch.

@@ -1,1 +1,3 @@
+pub mod LegalLemmas
 pub mod SoundLemmas
+pub mod TreeLemmas

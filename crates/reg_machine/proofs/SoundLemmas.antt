@@ -7,7 +7,7 @@ use Rattle.reg_machine.specs.declared.state.State.{State}
 use Rattle.std.proofs.lemmas.Bool.{cases_lt}
 use Rattle.reg_machine.specs.declared.op.Stepped.TheVariants as stepped
 use Rattle.reg_machine.specs.Step.{flags, act}
-use Rattle.reg_machine.specs.Run.{Config, Running, Done, TimedOut, after, next, silent, config_at, IsEnd, IsFine, AllCome, IsDone, Sound}
+use Rattle.reg_machine.specs.Run.{Config, Running, Done, TimedOut, Forbidden, after, next, silent, config_at, IsEnd, IsFine, AllCome, IsDone, Sound}
 
 done_stays : (n : ℕ) (answers : List Answer) (s : State) → config_at n answers (Done s) ≡ Done s
 done_stays zero answers s = refl
@@ -145,3 +145,18 @@ module _ (legal right : State → Type 0) where
     pub sound_await : (b : Bool) (p : ℕ) → p < most → Sound legal right (op ∷ ops) (st b p)
     unfolding Stands
     sound_await b p l = sound_from Stands op ops most keeps (st b p) (b, p, l, refl)
+
+-- what follows from what is right at the end is right there too
+fine_right : (legal right more : State → Type 0) → ((s : State) → right s → more s) → (c : Config) → IsFine legal right c → IsFine legal more c
+fine_right legal right more h (Running [] s) f = f
+fine_right legal right more h (Running (op ∷ ops) s) f = f
+fine_right legal right more h (Done s) f = (f.0, h s f.1)
+fine_right legal right more h (TimedOut name s) f = f
+fine_right legal right more h (Forbidden rule s) f = f
+
+pub sound_right : (legal right more : State → Type 0) (ops : List Op) (s : State) → ((u : State) → right u → more u) → Sound legal right ops s → Sound legal more ops s
+sound_right legal right more ops s h d = record {
+  fine = λ answers n. fine_right legal right more h (config_at n answers (Running ops s)) (d.fine answers n);
+  ends = d.ends;
+  prompt = d.prompt;
+}

@@ -1,15 +1,15 @@
 -- Which states keep the limits of a table and the functions of the pins.
-use Rattle.std.specs.Prelude.{◌≡◌, ℕ, ◌%◌, ◌<◌, List, length, slice_index, true, Option}
+use Rattle.std.specs.Prelude.{◌≡◌, ℕ, ◌%◌, ◌<◌, ◌&&◌, nat_lt, List, length, slice_index, Bool, true, Option, Some, None}
 use Rattle.reg_map.specs.Fields.{bit_of}
-use Rattle.res_base.specs.Fraction.{Fraction, IsAtMost, whole, over}
-use Rattle.res_model.specs.Clock.{sysclk_of, vco_in_of, vco_of}
-use Rattle.res_model.specs.Limits.{AreWithin, IsWithinMax}
-use Rattle.res_model.specs.Power.{flash_rows, scale_limit}
+use Rattle.res_base.specs.Fraction.{Fraction, IsAtMost, at_most, whole, over}
+use Rattle.res_model.specs.Clock.{sysclk_of, vco_in_of, vco_of, where_used}
+use Rattle.res_model.specs.Limits.{AreWithin, are_within, IsWithinMax}
+use Rattle.res_model.specs.Power.{flash_rows, scale_limit, is_within_max}
 use Rattle.res_model.specs.declared.clock.ClockChoice.{ClockChoice}
 use Rattle.res_model.specs.declared.clock.Facts.{Facts}
 use Rattle.res_model.specs.declared.table.TableParts.{TableParts}
 use Rattle.reg_machine.specs.Tree.{choice_of}
-use Rattle.reg_machine.specs.Pins.{ArePinsLegal}
+use Rattle.reg_machine.specs.Pins.{ArePinsLegal, are_legal_below}
 use Rattle.reg_machine.specs.declared.state.State.{State}
 use Rattle.reg_machine.specs.declared.state.Target.{Target}
 
@@ -26,6 +26,18 @@ pub record NodesFit (t : TableParts) (scale : Option ℕ) (rows : List ℕ) (wai
 abbrev pub IsChoiceLegal : TableParts → Facts → ℕ → ClockChoice → Type 0
 IsChoiceLegal t f wait c = NodesFit t (scale_limit t c.vos) (flash_rows t f.vdd) wait (sysclk_of f c) c.hpre c.ppre1 c.ppre2
 
+-- the same as a test
+abbrev pub nodes_fit : TableParts → Option ℕ → List ℕ → ℕ → Fraction → ℕ → ℕ → ℕ → Bool
+nodes_fit t scale rows wait sysclk hpre ppre1 ppre2 =
+    at_most sysclk (whole t.limits.sysclk)
+    && (is_within_max (over sysclk hpre) scale
+    && ((nat_lt wait (length rows) && at_most (over sysclk hpre) (whole (slice_index rows wait)))
+    && (at_most (over (over sysclk hpre) ppre1) (whole t.limits.pclk1)
+    && at_most (over (over sysclk hpre) ppre2) (whole t.limits.pclk2))))
+
+abbrev pub is_choice_legal : TableParts → Facts → ℕ → ClockChoice → Bool
+is_choice_legal t f wait c = nodes_fit t (scale_limit t c.vos) (flash_rows t f.vdd) wait (sysclk_of f c) c.hpre c.ppre1 c.ppre2
+
 -- for the source in effect and for the one that SW asks for, under the latency in effect; with the VCO in range where
 -- PLLON is set
 pub record IsLegal (t : TableParts) (want : Target) (s : State) : Type 0 where
@@ -34,3 +46,18 @@ pub record IsLegal (t : TableParts) (want : Target) (s : State) : Type 0 where
   pub vco_in : bit_of 24 s.cr ≡ true → AreWithin t.limits.vco_in (vco_in_of want.facts (choice_of s s.source))
   pub vco : bit_of 24 s.cr ≡ true → AreWithin t.limits.vco (vco_of want.facts (choice_of s s.source))
   pub pins : ArePinsLegal want.pins s.gpio
+
+-- the same as a test
+abbrev pub are_within_some : ℕ × ℕ → Option Fraction → Bool
+are_within_some bounds None = true
+are_within_some bounds (Some x) = are_within bounds x
+
+abbrev pub is_vco_legal : TableParts → Facts → Bool → ClockChoice → Bool
+is_vco_legal t f on c = are_within_some t.limits.vco_in (where_used on (vco_in_of f c)) && are_within_some t.limits.vco (where_used on (vco_of f c))
+
+abbrev pub is_legal : TableParts → Target → State → Bool
+is_legal t want s =
+    is_choice_legal t want.facts s.latency (choice_of s s.source)
+    && (is_choice_legal t want.facts s.latency (choice_of s (s.cfgr % 4))
+    && (is_vco_legal t want.facts (bit_of 24 s.cr) (choice_of s s.source)
+    && are_legal_below 144 want.pins s.gpio))

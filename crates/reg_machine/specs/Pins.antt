@@ -1,6 +1,6 @@
 -- The fields of a pin (RM0090, GPIO), the mode that they say, and which modes are legal and right.
 -- A pin stands at port times 16 plus number.
-use Rattle.std.specs.Prelude.{◌≡◌, ℕ, ◌*◌, ◌/◌, ◌%◌, ◌<◌, List, get_or, Bool, true, ◌||◌, if◌then◌else◌, ◌==◌, nat_lt, Option, Some, None, ◌⊎◌}
+use Rattle.std.specs.Prelude.{◌≡◌, ℕ, zero, suc, ◌*◌, ◌/◌, ◌%◌, ◌<◌, List, get_or, Bool, true, false, not, ◌&&◌, ◌||◌, if◌then◌else◌, ◌==◌, nat_lt, Option, Some, None, ◌⊎◌}
 use Rattle.reg_map.specs.Fields.{field_of}
 use Rattle.reg_map.specs.declared.register.GpioReg.{GpioReg}
 use Rattle.reg_map.specs.declared.register.GpioReg.TheVariants as kind
@@ -52,6 +52,31 @@ IsPinLegal wanted p m af = m ≡ 2 → IsChosen wanted af ⊎ ((is_debug p ≡ t
 
 pub record ArePinsLegal (wanted : List (Option Mode)) (g : List ℕ) : Type 0 where
   pub pin : (p : ℕ) → p < 144 → IsPinLegal (get_or wanted p None) p (mode_field p g) (af_field p g)
+
+-- the same as tests
+abbrev pub is_function : Mode → ℕ → Bool
+is_function (mode.Alt f) af = af == f
+is_function mode.Input af = false
+is_function mode.Output af = false
+is_function mode.Analog af = false
+is_function mode.Exti af = false
+is_function mode.Osc af = false
+is_function mode.Held af = false
+
+abbrev pub is_chosen : Option Mode → ℕ → Bool
+is_chosen None af = false
+is_chosen (Some m) af = is_function m af
+
+abbrev pub is_pin_legal : Option Mode → ℕ → ℕ → ℕ → Bool
+is_pin_legal wanted p m af = not (m == 2) || (is_chosen wanted af || (is_debug p && (af == 0)))
+
+abbrev pub is_place_legal : List (Option Mode) → List ℕ → ℕ → Bool
+is_place_legal wanted g p = is_pin_legal (get_or wanted p None) p (mode_field p g) (af_field p g)
+
+-- each place below n is legal
+unfoldable pub are_legal_below : ℕ → List (Option Mode) → List ℕ → Bool
+are_legal_below zero wanted g = true
+are_legal_below (suc n) wanted g = is_place_legal wanted g n && are_legal_below n wanted g
 
 -- ---- what is right
 

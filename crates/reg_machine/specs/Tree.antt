@@ -1,5 +1,5 @@
 -- The clock tree that the registers say (RM0090, RCC).
-use Rattle.std.specs.Prelude.{◌≡◌, ℕ, ◌+◌, ◌*◌, ◌-◌, ◌^◌, if◌then◌else◌, ◌==◌, nat_lt}
+use Rattle.std.specs.Prelude.{◌≡◌, ℕ, ◌+◌, ◌*◌, ◌-◌, ◌^◌, Bool, if◌then◌else◌, ◌==◌, nat_lt}
 use Rattle.reg_map.specs.Fields.{bit_of, field_of}
 use Rattle.res_base.specs.Fraction.{Fraction, whole, times, over}
 use Rattle.res_model.specs.Clock.{output, vco_in_of, vco_of, clk48_of, sysclk_of, hclk_of, pclk1_of, pclk2_of, timer, where_used}
@@ -66,16 +66,20 @@ choice_of s source = record {
   vos = vos_of s.pwr_cr;
 }
 
--- the nodes for the source in effect, and those of the PLL where PLLON is set
-abbrev pub tree_of : Facts → State → Nodes
-tree_of f s = let c = choice_of s s.source in record {
-  vco_in = where_used (bit_of 24 s.cr) (vco_in_of f c);
-  vco = where_used (bit_of 24 s.cr) (vco_of f c);
+-- the nodes of a choice, and those of the PLL where it is on
+abbrev pub nodes_where : Bool → Facts → ClockChoice → Nodes
+nodes_where on f c = record {
+  vco_in = where_used on (vco_in_of f c);
+  vco = where_used on (vco_of f c);
   sysclk = sysclk_of f c;
   hclk = hclk_of f c;
   pclk1 = pclk1_of f c;
   pclk2 = pclk2_of f c;
   tim1 = timer c.ppre1 (pclk1_of f c);
   tim2 = timer c.ppre2 (pclk2_of f c);
-  clk48 = where_used (bit_of 24 s.cr) (clk48_of f c);
+  clk48 = where_used on (clk48_of f c);
 }
+
+-- the nodes for the source in effect, and those of the PLL where PLLON is set
+abbrev pub tree_of : Facts → State → Nodes
+tree_of f s = nodes_where (bit_of 24 s.cr) f (choice_of s s.source)

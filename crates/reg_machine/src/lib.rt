@@ -2,12 +2,15 @@
 //! of them a rule forbids, and which states keep the limits of the table and the pins of the target.
 #![tactic(auto)]
 
+mod clocks;
 mod machine;
 mod op;
+mod pins;
 mod rule;
 mod state;
 mod step;
 
 pub use machine::Machine;
 pub use op::{Answer, Op, Stepped, Timeout};
+pub use pins::{af_kind, is_debug};
 pub use state::{State, Target};

@@ -1,13 +1,17 @@
-ghost use Rattle.std.specs.Prelude.{◌≡◌};
+ghost use Rattle.std.specs.Prelude.{◌≡◌, ◌^◌, ◌<◌};
+ghost use Rattle.reg_machine.specs.Legal.{is_legal};
+ghost use Rattle.reg_machine.specs.Words.{IsStored};
 ghost use Rattle.reg_machine.specs.Reset.{reset_of};
 
+use crate::clocks::{is_choice_legal, is_vco_legal, tree_of};
 use crate::op::{Answer, Op, Stepped};
+use crate::pins::{are_pins_legal, mode_at};
 use crate::state::{State, Target};
 use crate::step;
 use power_flash::prefetch;
 use reg_map::Reg;
 use res_base::OutOfMemory;
-use res_model::Tables;
+use res_model::{Mode, Nodes, Tables};
 use std::alloc::Global;
 use std::marker::Model;
 
@@ -32,11 +36,14 @@ impl Model for Machine {
 }
 
 impl Machine {
-    ghost use Rattle.std.specs.Prelude.{◌≡◌, ◌^◌, ◌<◌, IfOk};
+    ghost use Rattle.std.specs.Prelude.{◌≡◌, ◌^◌, ◌<◌, ◌↔◌, IsTrue, IfOk};
     ghost use Rattle.reg_map.specs.Registers.{IsRegister};
     ghost use Rattle.reg_machine.specs.Words.{IsOp, word_of};
     ghost use Rattle.reg_machine.specs.Reset.{fresh};
     ghost use Rattle.reg_machine.specs.Step.{step_of};
+    ghost use Rattle.reg_machine.specs.Legal.{IsLegal, is_legal};
+    ghost use Rattle.reg_machine.specs.Pins.{mode_at};
+    ghost use Rattle.reg_machine.specs.Tree.{tree_of};
 
     /// The machine after reset.
     pub fn reset(alloc: Global, t: &Tables, want: &Target) -> Result<Machine, OutOfMemory>
@@ -69,6 +76,40 @@ impl Machine {
     {
         step::word(&self.state, r)
     }
+
+    /// Whether the state keeps the limits of the table, and each pin in alternate mode has its function.
+    pub fn legal(&self) -> bool
+        ensures test { result ≡ is_legal self.now.table self.now.want self.now.state }
+        ensures means { IsTrue result ↔ IsLegal self.now.table self.now.want self.now.state }
+    {
+        is_legal(&self.tables, &self.want, &self.state)
+    }
+
+    /// The clock tree for the source in effect. The nodes of the PLL are None where it is off.
+    pub fn nodes_of(&self) -> Nodes
+        ensures { result ≡ tree_of self.now.want.facts self.now.state }
+    {
+        tree_of(&self.want.facts, &self.state)
+    }
+
+    /// The mode of the pin at port times 16 plus number.
+    pub fn mode_of(&self, place: u8) -> Mode
+        requires { place < 144 }
+        ensures { result ≡ mode_at place self.now.state.gpio }
+    {
+        mode_at(place, &self.state.gpio)
+    }
+}
+
+fn is_legal(t: &Tables, want: &Target, s: &State) -> bool
+    requires stored { IsStored s.now }
+    requires hse { want.now.facts.hse_hz < 2 ^ 32 }
+    ensures { result ≡ is_legal t.now want.now s.now }
+{
+    is_choice_legal(t, &want.facts, s, s.source)
+        && is_choice_legal(t, &want.facts, s, s.cfgr % 4)
+        && is_vco_legal(t, &want.facts, s)
+        && are_pins_legal(want, &s.gpio)
 }
 
 fn reset_state(t: &Tables, want: &Target) -> State
@@ -85,15 +126,60 @@ fn reset_state(t: &Tables, want: &Target) -> State
         apb_read: 0,
         pwr_cr: 0x0000_4000,
         gpio: [
-            0xA800_0000, 0, 0x0C00_0000, 0x6400_0000, 0, 0,
-            0x0000_0280, 0, 0x0000_00C0, 0x0000_0100, 0, 0,
-            0, 0, 0, 0, 0, 0,
-            0, 0, 0, 0, 0, 0,
-            0, 0, 0, 0, 0, 0,
-            0, 0, 0, 0, 0, 0,
-            0, 0, 0, 0, 0, 0,
-            0, 0, 0, 0, 0, 0,
-            0, 0, 0, 0, 0, 0,
+            0xA800_0000,
+            0,
+            0x0C00_0000,
+            0x6400_0000,
+            0,
+            0,
+            0x0000_0280,
+            0,
+            0x0000_00C0,
+            0x0000_0100,
+            0,
+            0,
+            0,
+            0,
+            0,
+            0,
+            0,
+            0,
+            0,
+            0,
+            0,
+            0,
+            0,
+            0,
+            0,
+            0,
+            0,
+            0,
+            0,
+            0,
+            0,
+            0,
+            0,
+            0,
+            0,
+            0,
+            0,
+            0,
+            0,
+            0,
+            0,
+            0,
+            0,
+            0,
+            0,
+            0,
+            0,
+            0,
+            0,
+            0,
+            0,
+            0,
+            0,
+            0,
         ],
         hse_ready: false,
         pll_ready: false,

@@ -17,7 +17,7 @@ pub const PLLON: u32 = 24;
 
 const PWREN: u32 = 28;
 
-const VOS: u32 = 14;
+pub const VOS: u32 = 14;
 
 const PRFTEN: u32 = 8;
 

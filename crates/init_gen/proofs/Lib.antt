@@ -1,0 +1,10 @@
+pub mod ClockLemmas
+pub mod Fitting
+pub mod GpioLemmas
+pub mod LateLemmas
+pub mod ListLemmas
+pub mod PartLemmas
+pub mod PinLemmas
+pub mod SectionLemmas
+pub mod SettingLemmas
+pub mod WritesLemmas

@@ -1,0 +1,441 @@
+-- Items 1 to 3 in front of the rest, for each use of HSE and of the PLL; and the whole list.
+use Rattle.std.proofs.Common.{◌≡◌, ℕ, ◌+◌, ◌*◌, ◌/◌, ◌%◌, ◌^◌, ◌<◌, ◌≤◌, List, ◌∷◌, get_or, None, Bool, true, false, ◌&&◌, ◌||◌, cond, eqb, Option, inl, inr, refl, sym, subst, ap, ◌∙◌, arith}
+use Rattle.std.proofs.lemmas.Bool.Decides.{eqb_tells}
+use Rattle.reg_map.specs.declared.register.Reg.TheVariants as reg
+use Rattle.reg_machine.specs.declared.op.Timeout.TheVariants as timeout
+use Rattle.reg_machine.specs.declared.op.Op.{Op}
+use Rattle.reg_machine.specs.declared.op.Op.TheVariants as op
+use Rattle.reg_machine.specs.declared.op.Answer.{Answer}
+use Rattle.init_gen.specs.declared.setting.Setup.{Setup}
+use Rattle.reg_machine.specs.declared.state.State.{State}
+use Rattle.reg_machine.specs.declared.op.Stepped.TheVariants as stepped
+use Rattle.init_gen.specs.declared.setting.Codes.{Codes}
+use Rattle.init_gen.specs.declared.setting.Oscillator.{Oscillator}
+use Rattle.init_gen.specs.declared.setting.Oscillator.TheVariants as oscillator
+use Rattle.reg_machine.specs.Words.{is_whole}
+use Rattle.reg_machine.specs.Step.{flags, act}
+use Rattle.reg_machine.specs.Run.{after, Sound}
+use Rattle.init_gen.specs.PinWrites.{wanted, AreWhole, gpio_section}
+use Rattle.res_base.specs.Fraction.{Fraction, whole, times, over}
+use Rattle.res_model.specs.Clock.{output}
+use Rattle.res_model.specs.Limits.{AreWithin}
+use Rattle.res_model.specs.Power.{scale_limit}
+use Rattle.res_model.specs.Table.{hsi}
+use Rattle.res_model.specs.declared.table.Mode.{Mode}
+use Rattle.res_model.specs.declared.table.TableParts.{TableParts}
+use Rattle.reg_machine.specs.declared.state.Target.{Target}
+use Rattle.reg_machine.specs.Tree.{m_of, n_of, p_of, src_of, vos_of}
+use Rattle.reg_machine.specs.Legal.{NodesFit, IsLegal}
+use Rattle.init_gen.specs.Writes.{vos_ops, hse_ops, pll_ops, late_ops, pll_word}
+use Rattle.init_gen.specs.Codes.{IsSmall}
+use Rattle.init_gen.proofs.Fitting.{CodesFit, TakesReset, Suits, FieldsAre, has_hse, is_on, chosen_scale, rows_of, osc_of, vco_in_at, vco_at, sys_at}
+use Rattle.reg_machine.proofs.SoundLemmas.{sound_op, sound_await}
+use Rattle.init_gen.proofs.ClockLemmas.{m_is, n_is, pcode_is, psrc_is, q_is, whole_is}
+use Rattle.init_gen.proofs.LateLemmas.{at, flags_to, first_row, legal_hsi, late_sound, Stays, same_if, below, not_below, comes_to, none_comes}
+
+-- RCC_CR with the PLL off, and on
+cr_of : Oscillator → ℕ
+cr_of oscillator.Off = 129
+cr_of oscillator.Crystal = 65665
+cr_of oscillator.Bypass = 327809
+
+cr_pll : Oscillator → ℕ
+cr_pll oscillator.Off = 16777345
+cr_pll oscillator.Crystal = 16842881
+cr_pll oscillator.Bypass = 17105025
+
+hse_off : (o : Oscillator) (a : Answer) → (has_hse o || (a.hse && eqb (cr_of o / 2 ^ 16 % 2) 1)) ≡ has_hse o
+unfolding cr_of
+hse_off oscillator.Off a = none_comes false a.hse
+hse_off oscillator.Crystal a = refl
+hse_off oscillator.Bypass a = refl
+
+hse_on : (o : Oscillator) (a : Answer) → (has_hse o || (a.hse && eqb (cr_pll o / 2 ^ 16 % 2) 1)) ≡ has_hse o
+unfolding cr_pll
+hse_on oscillator.Off a = none_comes false a.hse
+hse_on oscillator.Crystal a = refl
+hse_on oscillator.Bypass a = refl
+
+bit_off : (o : Oscillator) → eqb (cr_of o / 2 ^ 24 % 2) 1 ≡ false
+unfolding cr_of
+bit_off oscillator.Off = refl
+bit_off oscillator.Crystal = refl
+bit_off oscillator.Bypass = refl
+
+bit_on : (o : Oscillator) → eqb (cr_pll o / 2 ^ 24 % 2) 1 ≡ true
+unfolding cr_pll
+bit_on oscillator.Off = refl
+bit_on oscillator.Crystal = refl
+bit_on oscillator.Bypass = refl
+
+-- a PLL that is off stays off
+pll_off : (o : Oscillator) (a : Answer) (x : Bool) → (false || (a.pll && (eqb (cr_of o / 2 ^ 24 % 2) 1 && x))) ≡ false
+pll_off o a x = ap (λ b. false || (a.pll && (b && x))) (bit_off o) ∙ none_comes false a.pll
+
+on_form : ℕ → Bool → Bool → Bool
+on_form s h p = cond (eqb s 0) true (cond (eqb s 1) h (eqb s 2 && p))
+
+-- the PLL's source: what a flag and what the rule see
+source_flag : (s : ℕ) (h p : Bool) → on_form s h p ≡ true → cond (eqb s 1) h true ≡ true
+unfolding on_form
+source_flag s h p e = elim (eqb_tells s 1) [
+  | inl y ↦ ap (λ b. cond b h true) y.0 ∙ subst (λ x. cond (eqb x 0) true (cond (eqb x 1) h (eqb x 2 && p)) ≡ true) y.1 e
+  | inr n ↦ ap (λ b. cond b h true) n.0
+]
+
+source_rule : (s : ℕ) (h p : Bool) → s < 2 → on_form s h p ≡ true → on_form s h false ≡ true
+unfolding on_form
+source_rule s h p l e = elim (eqb_tells s 2) [
+  | inl y ↦ absurd (omega (arith, y.1))
+  | inr n ↦ ap (λ b. cond (eqb s 0) true (cond (eqb s 1) h (b && false))) n.0 ∙ sym (ap (λ b. cond (eqb s 0) true (cond (eqb s 1) h (b && p))) n.0) ∙ e
+]
+
+module _ (pf oi by : Bool) (ax ay pw : ℕ) (tb : TableParts) (want : Target) (sys : Fraction) (c : Codes) (f : IsSmall c) (t : TakesReset tb want c) (hn : NodesFit tb (scale_limit tb (vos_of pw)) (rows_of tb want) 0 (whole hsi) 1 1 1) (pins : List (Option Setup)) (link : (p : ℕ) → ◌≡◌ {A = Option Mode} (get_or want.pins p None) (wanted (get_or pins p None))) (g : CodesFit tb want sys c) (whole_pins : AreWhole pins) (sc : scale_limit tb (vos_of pw) ≡ chosen_scale tb c) where
+  abbrev v : ℕ
+  v = pll_word c
+
+  S : List Op → State → Type 0
+  S ops s = Sound (IsLegal tb want) (FieldsAre want sys c) ops s
+
+  late : List Op
+  late = late_ops pf c (gpio_section pins)
+
+  -- the PLL is off for good
+  stays_off : c.pll ≡ false → Stays tb want sys c (cr_of c.oscillator) 603992080 (has_hse c.oscillator) false
+  unfolding on_form
+  stays_off e =
+      let src_on : on_form c.src (has_hse c.oscillator) false ≡ true = subst (λ b. on_form c.src (has_hse c.oscillator) b ≡ true) e g.src_on in
+      record {
+        hse_stays = hse_off c.oscillator;
+        pll_stays = λ a. pll_off c.oscillator a _;
+        vco_in = λ h. absurd (both h (bit_off c.oscillator));
+        vco = λ h. absurd (both h (bit_off c.oscillator));
+        ready = src_on;
+        sysclk = g.sys_off e (over (vco_at want.facts 603992080) (p_of 603992080));
+        pll_on = bit_off c.oscillator ∙ sym e;
+        pll_is = λ h. absurd (both h e);
+      }
+    where
+      both : {b : Bool} → b ≡ true → b ≡ false → ⊥
+      both h k = cc
+
+  vco_in_good : c.pll ≡ true → AreWithin tb.limits.vco_in (vco_in_at want.facts v)
+  vco_in_good e =
+      subst (λ s. AreWithin tb.limits.vco_in (over (osc_of want.facts s) (m_of v))) (sym (psrc_is c f))
+      (subst (λ m. AreWithin tb.limits.vco_in (over (osc_of want.facts c.psrc) m)) (sym (m_is c f)) (g.vco_in e))
+
+  vco_good : c.pll ≡ true → AreWithin tb.limits.vco (vco_at want.facts v)
+  vco_good e =
+      subst (λ s. AreWithin tb.limits.vco (times (over (osc_of want.facts s) (m_of v)) (n_of v))) (sym (psrc_is c f))
+      (subst (λ m. AreWithin tb.limits.vco (times (over (osc_of want.facts c.psrc) m) (n_of v))) (sym (m_is c f))
+      (subst (λ n. AreWithin tb.limits.vco (times (over (osc_of want.facts c.psrc) c.m) n)) (sym (n_is c f)) (g.vco e)))
+
+  p_is : p_of v ≡ 2 * (c.pcode + 1)
+  p_is = ap (λ p. 2 * (p + 1)) (pcode_is c f)
+
+  sys_is : sys_at want.facts v c.src ≡ output want.facts.hse_hz (over (times (over (osc_of want.facts c.psrc) c.m) c.n) (2 * (c.pcode + 1))) (src_of c.src)
+  sys_is =
+      ap (λ s. output want.facts.hse_hz (over (times (over (osc_of want.facts s) (m_of v)) (n_of v)) (p_of v)) (src_of c.src)) (psrc_is c f)
+      ∙ ap (λ m. output want.facts.hse_hz (over (times (over (osc_of want.facts c.psrc) m) (n_of v)) (p_of v)) (src_of c.src)) (m_is c f)
+      ∙ ap (λ n. output want.facts.hse_hz (over (times (over (osc_of want.facts c.psrc) c.m) n) (p_of v)) (src_of c.src)) (n_is c f)
+      ∙ ap (λ p. output want.facts.hse_hz (over (times (over (osc_of want.facts c.psrc) c.m) c.n) p) (src_of c.src)) p_is
+
+  -- the PLL is on for good
+  stays_on : c.pll ≡ true → Stays tb want sys c (cr_pll c.oscillator) v (has_hse c.oscillator) true
+  unfolding on_form
+  stays_on e = record {
+    hse_stays = hse_on c.oscillator;
+    pll_stays = λ a. refl;
+    vco_in = λ h. vco_in_good e;
+    vco = λ h. vco_good e;
+    ready = subst (λ b. on_form c.src (has_hse c.oscillator) b ≡ true) e g.src_on;
+    sysclk = sys_is ∙ g.sys_on e;
+    pll_on = bit_on c.oscillator ∙ sym e;
+    pll_is = λ h. record { psrc = psrc_is c f; m = m_is c f; n = n_is c f; p = p_is; q = q_is c f };
+  }
+
+  -- ---- the PLL
+  state3 : Oscillator → ℕ → State
+  state3 o x = at pf oi by ax ay pw (cr_of o) x 0 0 (has_hse o) false 0 0 false 0
+
+  state5 : Oscillator → Bool → ℕ → State
+  state5 o b p = at pf oi by ax ay pw (cr_pll o) v 0 0 (has_hse o) b 0 0 false p
+
+  flags3 : (o : Oscillator) (x : ℕ) (a : Answer) → flags a (state3 o x) ≡ state3 o x
+  unfolding state3
+  flags3 o x a = flags_to pf oi by ax ay pw a (cr_of o) x 0 0 (has_hse o) false 0 0 false 0 (has_hse o) false 0 0 (hse_off o a) (pll_off o a _) (same_if a.latency 0) (same_if a.switch 0)
+
+  legal3 : (o : Oscillator) (x : ℕ) → IsLegal tb want (state3 o x)
+  unfolding state3
+  legal3 o x = legal_hsi pf oi by ax ay pw tb want sys c f t hn (cr_of o) x 0 0 (has_hse o) false 0 false 0 refl (first_row pf oi by ax ay pw tb want sys c f t hn) (λ h. absurd (both h (bit_off o))) (λ h. absurd (both h (bit_off o))) where
+    both : {b : Bool} → b ≡ true → b ≡ false → ⊥
+    both h k = cc
+
+  op3 : Op
+  op3 = op.Write reg.Pllcfgr v
+
+  op4 : Op
+  op4 = op.Modify reg.Cr 0 16777216
+
+  op5 : Op
+  op5 = op.Await reg.Cr 33554432 33554432 10000 timeout.Pll
+
+  is_whole_v : is_whole v ≡ true
+  is_whole_v = whole_is c f g.m_least g.n_least g.n_most g.q_least
+
+  stored3 : (o : Oscillator) → act (state3 o 603992080) op3 ≡ (stepped.Went, state3 o v)
+  unfolding state3 op3 cr_of
+  stored3 oscillator.Off = rw (is_whole_v) refl
+  stored3 oscillator.Crystal = rw (is_whole_v) refl
+  stored3 oscillator.Bypass = rw (is_whole_v) refl
+
+  stored4 : (o : Oscillator) → on_form c.psrc (has_hse o) false ≡ true → act (state3 o v) op4 ≡ (stepped.Went, state5 o false 0)
+  unfolding state3 state5 op4 cr_of cr_pll on_form
+  stored4 oscillator.Off e = rw (psrc_is c f, e, is_whole_v) refl
+  stored4 oscillator.Crystal e = rw (psrc_is c f, e, is_whole_v) refl
+  stored4 oscillator.Bypass e = rw (psrc_is c f, e, is_whole_v) refl
+
+  flags5 : (o : Oscillator) → cond (eqb c.psrc 1) (has_hse o) true ≡ true → (a : Answer) (b : Bool) (p : ℕ) → flags a (state5 o b p) ≡ state5 o (a.pll || b) p
+  unfolding state5
+  flags5 o e a b p =
+      let h = has_hse o || (a.hse && eqb (cr_pll o / 2 ^ 16 % 2) 1) in
+      flags_to pf oi by ax ay pw a (cr_pll o) v 0 0 (has_hse o) b 0 0 false p (has_hse o) (a.pll || b) 0 0 (hse_on o a)
+      (ap (λ z. b || (a.pll && (z && cond (eqb (v / 2 ^ 22 % 2) 1) h true))) (bit_on o)
+      ∙ ap (λ s. b || (a.pll && cond (eqb s 1) h true)) (psrc_is c f)
+      ∙ ap (λ z. b || (a.pll && cond (eqb c.psrc 1) z true)) (hse_on o a)
+      ∙ ap (λ z. b || (a.pll && z)) e ∙ comes_to b a.pll)
+      (same_if a.latency 0) (same_if a.switch 0)
+
+  legal5 : c.pll ≡ true → (o : Oscillator) (b : Bool) (p : ℕ) → IsLegal tb want (state5 o b p)
+  unfolding state5
+  legal5 e o b p = legal_hsi pf oi by ax ay pw tb want sys c f t hn (cr_pll o) v 0 0 (has_hse o) b 0 false p refl (first_row pf oi by ax ay pw tb want sys c f t hn) (λ h. vco_in_good e) (λ h. vco_good e)
+
+  polls5 : (o : Oscillator) (b : Bool) (p : ℕ) → (state5 o b p).polls ≡ p
+  unfolding state5
+  polls5 o b p = refl
+
+  goes5 : (o : Oscillator) (p : ℕ) → act (state5 o true p) op5 ≡ (stepped.Went, state5 o true 0)
+  unfolding state5 op5 cr_pll
+  goes5 oscillator.Off p = refl
+  goes5 oscillator.Crystal p = refl
+  goes5 oscillator.Bypass p = refl
+
+  waits5 : (o : Oscillator) (p : ℕ) → p + 1 < 10000 → act (state5 o false p) op5 ≡ (stepped.Waiting, state5 o false (p + 1))
+  unfolding state5 op5 cr_pll
+  waits5 oscillator.Off p l = rw (below (p + 1) 10000 l) refl
+  waits5 oscillator.Crystal p l = rw (below (p + 1) 10000 l) refl
+  waits5 oscillator.Bypass p l = rw (below (p + 1) 10000 l) refl
+
+  out5 : (o : Oscillator) (p : ℕ) → 10000 ≤ p + 1 → act (state5 o false p) op5 ≡ (stepped.TimedOut timeout.Pll, state5 o false 0)
+  unfolding state5 op5 cr_pll
+  out5 oscillator.Off p l = rw (not_below (p + 1) 10000 l) refl
+  out5 oscillator.Crystal p l = rw (not_below (p + 1) 10000 l) refl
+  out5 oscillator.Bypass p l = rw (not_below (p + 1) 10000 l) refl
+
+  sound6 : c.pll ≡ true → S late (state5 c.oscillator true 0)
+  unfolding S late state5
+  sound6 e = late_sound pf oi by ax ay pw tb want sys c f t hn pins link g whole_pins (cr_pll c.oscillator) v (has_hse c.oscillator) true (stays_on e) sc
+
+  to_form : is_on c c.psrc ≡ true → on_form c.psrc (has_hse c.oscillator) c.pll ≡ true
+  unfolding on_form
+  to_form h = h
+
+  sound3 : c.pll ≡ true → S (op3 ∷ op4 ∷ op5 ∷ late) (state3 c.oscillator 603992080)
+  unfolding S
+  sound3 e =
+      let on : on_form c.psrc (has_hse c.oscillator) c.pll ≡ true = to_form (g.psrc_on e) in
+      let o = c.oscillator in
+      let five = sound_await (IsLegal tb want) (FieldsAre want sys c) (state5 o) (λ a. a.pll) op5 late 10000 timeout.Pll (record {
+        flags_are = flags5 o (source_flag c.psrc (has_hse o) c.pll on);
+        comes = λ a h q l x. q;
+        polls_are = polls5 o;
+        goes_on = goes5 o;
+        waits = waits5 o;
+        times_out = out5 o;
+        is_legal = legal5 e o;
+        rest = sound6 e;
+      }) false 0 (omega arith) in
+      let four = sound_op (IsLegal tb want) (FieldsAre want sys c) op4 (op5 ∷ late) (state3 o v) (λ a. state5 o false 0) (legal3 o v)
+      (λ a. subst (IsLegal tb want) (sym (flags3 o v a)) (legal3 o v))
+      (λ a. ap (λ u. after op4 (op5 ∷ late) (act u op4)) (flags3 o v a) ∙ ap (after op4 (op5 ∷ late)) (stored4 o (source_rule c.psrc (has_hse o) c.pll f.psrc on)))
+      (λ a. five) in
+      sound_op (IsLegal tb want) (FieldsAre want sys c) op3 (op4 ∷ op5 ∷ late) (state3 o 603992080) (λ a. state3 o v) (legal3 o 603992080)
+      (λ a. subst (IsLegal tb want) (sym (flags3 o 603992080 a)) (legal3 o 603992080))
+      (λ a. ap (λ u. after op3 (op4 ∷ op5 ∷ late) (act u op3)) (flags3 o 603992080 a) ∙ ap (after op3 (op4 ∷ op5 ∷ late)) (stored3 o))
+      (λ a. four)
+
+  sound_off : c.pll ≡ false → S late (state3 c.oscillator 603992080)
+  unfolding S late state3
+  sound_off e = late_sound pf oi by ax ay pw tb want sys c f t hn pins link g whole_pins (cr_of c.oscillator) 603992080 (has_hse c.oscillator) false (stays_off e) sc
+
+  pll_if : (b : Bool) → c.pll ≡ b → S (cond b (op3 ∷ op4 ∷ op5 ∷ late) late) (state3 c.oscillator 603992080)
+  pll_if true e = sound3 e
+  pll_if false e = sound_off e
+
+  ops3 : List Op
+  ops3 = pll_ops c late
+
+  pll_sound : S ops3 (state3 c.oscillator 603992080)
+  unfolding ops3 op3 op4 op5
+  pll_sound = pll_if c.pll refl
+
+  -- ---- HSE
+  state1 : ℕ → State
+  state1 cr = at pf oi by ax ay pw cr 603992080 0 0 false false 0 0 false 0
+
+  state2 : ℕ → Bool → ℕ → State
+  state2 cr b p = at pf oi by ax ay pw cr 603992080 0 0 b false 0 0 false p
+
+  -- before HSEON
+  flags1 : (cr : ℕ) → eqb (cr / 2 ^ 16 % 2) 1 ≡ false → eqb (cr / 2 ^ 24 % 2) 1 ≡ false → (a : Answer) → flags a (state1 cr) ≡ state1 cr
+  unfolding state1
+  flags1 cr e d a =
+      let h = a.hse && eqb (cr / 2 ^ 16 % 2) 1 in
+      flags_to pf oi by ax ay pw a cr 603992080 0 0 false false 0 0 false 0 false false 0 0
+      (ap (λ b. false || (a.hse && b)) e ∙ none_comes false a.hse)
+      (ap (λ b. false || (a.pll && (b && cond (eqb (603992080 / 2 ^ 22 % 2) 1) h true))) d ∙ none_comes false a.pll)
+      (same_if a.latency 0) (same_if a.switch 0)
+
+  not_on : (b : Bool) → b ≡ true → b ≡ false → ⊥
+  not_on b h k = cc
+
+  legal1 : (cr : ℕ) → eqb (cr / 2 ^ 24 % 2) 1 ≡ false → IsLegal tb want (state1 cr)
+  unfolding state1
+  legal1 cr d = legal_hsi pf oi by ax ay pw tb want sys c f t hn cr 603992080 0 0 false false 0 false 0 refl (first_row pf oi by ax ay pw tb want sys c f t hn) (λ h. absurd (not_on (eqb (cr / 2 ^ 24 % 2) 1) h d)) (λ h. absurd (not_on (eqb (cr / 2 ^ 24 % 2) 1) h d))
+
+  -- after it
+  flags2 : (cr : ℕ) → eqb (cr / 2 ^ 16 % 2) 1 ≡ true → eqb (cr / 2 ^ 24 % 2) 1 ≡ false → (a : Answer) (b : Bool) (p : ℕ) → flags a (state2 cr b p) ≡ state2 cr (a.hse || b) p
+  unfolding state2
+  flags2 cr e d a b p =
+      let h = b || (a.hse && eqb (cr / 2 ^ 16 % 2) 1) in
+      flags_to pf oi by ax ay pw a cr 603992080 0 0 b false 0 0 false p (a.hse || b) false 0 0
+      (ap (λ z. b || (a.hse && z)) e ∙ comes_to b a.hse)
+      (ap (λ z. false || (a.pll && (z && cond (eqb (603992080 / 2 ^ 22 % 2) 1) h true))) d ∙ none_comes false a.pll)
+      (same_if a.latency 0) (same_if a.switch 0)
+
+  legal2 : (cr : ℕ) → eqb (cr / 2 ^ 24 % 2) 1 ≡ false → (b : Bool) (p : ℕ) → IsLegal tb want (state2 cr b p)
+  unfolding state2
+  legal2 cr d b p = legal_hsi pf oi by ax ay pw tb want sys c f t hn cr 603992080 0 0 b false 0 false p refl (first_row pf oi by ax ay pw tb want sys c f t hn) (λ h. absurd (not_on (eqb (cr / 2 ^ 24 % 2) 1) h d)) (λ h. absurd (not_on (eqb (cr / 2 ^ 24 % 2) 1) h d))
+
+  op2 : Op
+  op2 = op.Await reg.Cr 131072 131072 100000 timeout.Hse
+
+  crystal_sound : (ops : List Op) → S ops (state2 65665 true 0) → S (op2 ∷ ops) (state2 65665 false 0)
+  unfolding S state2 op2
+  crystal_sound ops rest = sound_await (IsLegal tb want) (FieldsAre want sys c) (state2 65665) (λ a. a.hse) op2 ops 100000 timeout.Hse (record {
+    flags_are = flags2 65665 refl refl;
+    comes = λ a h q l x. h;
+    polls_are = λ b p. refl;
+    goes_on = λ p. refl;
+    waits = λ p l. rw (below (p + 1) 100000 l) refl;
+    times_out = λ p l. rw (not_below (p + 1) 100000 l) refl;
+    is_legal = legal2 65665 refl;
+    rest = rest;
+  }) false 0 (omega arith)
+
+  bypass_sound : (ops : List Op) → S ops (state2 327809 true 0) → S (op2 ∷ ops) (state2 327809 false 0)
+  unfolding S state2 op2
+  bypass_sound ops rest = sound_await (IsLegal tb want) (FieldsAre want sys c) (state2 327809) (λ a. a.hse) op2 ops 100000 timeout.Hse (record {
+    flags_are = flags2 327809 refl refl;
+    comes = λ a h q l x. h;
+    polls_are = λ b p. refl;
+    goes_on = λ p. refl;
+    waits = λ p l. rw (below (p + 1) 100000 l) refl;
+    times_out = λ p l. rw (not_below (p + 1) 100000 l) refl;
+    is_legal = legal2 327809 refl;
+    rest = rest;
+  }) false 0 (omega arith)
+
+  -- HSEON, from a word of RCC_CR to another
+  op1 : Op
+  op1 = op.Modify reg.Cr 0 65536
+
+  crystal_on : oi ≡ true → by ≡ false → act (state1 129) op1 ≡ (stepped.Went, state2 65665 false 0)
+  unfolding state1 state2 op1
+  crystal_on e d = rw (e, d) refl
+
+  bypass_on : oi ≡ true → by ≡ true → act (state1 262273) op1 ≡ (stepped.Went, state2 327809 false 0)
+  unfolding state1 state2 op1
+  bypass_on e d = rw (e, d) refl
+
+  op0 : Op
+  op0 = op.Modify reg.Cr 0 262144
+
+  bypass_set : act (state1 129) op0 ≡ (stepped.Went, state1 262273)
+  unfolding state1 op0
+  bypass_set = refl
+
+  -- one op before HSEON
+  before_on : (cr : ℕ) (one : Op) (ops : List Op) (s : State) → eqb (cr / 2 ^ 16 % 2) 1 ≡ false → eqb (cr / 2 ^ 24 % 2) 1 ≡ false → act (state1 cr) one ≡ (stepped.Went, s) → S ops s → S (one ∷ ops) (state1 cr)
+  unfolding S
+  before_on cr one ops s e d went rest = sound_op (IsLegal tb want) (FieldsAre want sys c) one ops (state1 cr) (λ a. s) (legal1 cr d)
+      (λ a. subst (IsLegal tb want) (sym (flags1 cr e d a)) (legal1 cr d))
+      (λ a. ap (λ u. after one ops (act u one)) (flags1 cr e d a) ∙ ap (after one ops) went)
+      (λ a. rest)
+
+  hse_sound : (o : Oscillator) → Suits o oi by → (ops : List Op) → S ops (state3 o 603992080) → S (hse_ops o ops) (state1 129)
+  unfolding op0 op1 op2 state1 state2 state3 cr_of
+  hse_sound oscillator.Off s ops rest = rest
+  hse_sound oscillator.Crystal s ops rest = before_on 129 op1 (op2 ∷ ops) (state2 65665 false 0) refl refl (crystal_on s.0 s.1) (crystal_sound ops rest)
+  hse_sound oscillator.Bypass s ops rest =
+      before_on 129 op0 (op1 ∷ op2 ∷ ops) (state1 262273) refl refl bypass_set
+      (before_on 262273 op1 (op2 ∷ ops) (state2 327809 false 0) refl refl (bypass_on s.0 s.1) (bypass_sound ops rest))
+
+  pub after_vos : Suits c.oscillator oi by → Sound (IsLegal tb want) (FieldsAre want sys c) (hse_ops c.oscillator (pll_ops c (late_ops pf c (gpio_section pins)))) (at pf oi by ax ay pw 129 603992080 0 0 false false 0 0 false 0)
+  unfolding S ops3 late state1
+  after_vos s = hse_sound c.oscillator s ops3 pll_sound
+
+-- ---- VOS
+module _ (pf oi by : Bool) (tb : TableParts) (want : Target) (sys : Fraction) (c : Codes) (f : IsSmall c) (t : TakesReset tb want c) (pins : List (Option Setup)) (link : (p : ℕ) → ◌≡◌ {A = Option Mode} (get_or want.pins p None) (wanted (get_or pins p None))) (g : CodesFit tb want sys c) (whole_pins : AreWhole pins) (suits : Suits c.oscillator oi by) where
+  state0 : ℕ → ℕ → ℕ → State
+  state0 ax ay pw = at pf oi by ax ay pw 129 603992080 0 0 false false 0 0 false 0
+
+  flags0 : (ax ay pw : ℕ) (a : Answer) → flags a (state0 ax ay pw) ≡ state0 ax ay pw
+  unfolding state0
+  flags0 ax ay pw a = flags_to pf oi by ax ay pw a 129 603992080 0 0 false false 0 0 false 0 false false 0 0 (none_comes false a.hse) (none_comes false a.pll) (same_if a.latency 0) (same_if a.switch 0)
+
+  Takes : ℕ → Type 0
+  Takes pw = NodesFit tb (scale_limit tb (vos_of pw)) (rows_of tb want) 0 (whole hsi) 1 1 1
+
+  legal0 : (ax ay pw : ℕ) → Takes pw → IsLegal tb want (state0 ax ay pw)
+  unfolding state0 Takes
+  legal0 ax ay pw hn = legal_hsi pf oi by ax ay pw tb want sys c f t hn 129 603992080 0 0 false false 0 false 0 refl (first_row pf oi by ax ay pw tb want sys c f t hn) (λ h. absurd (cc)) (λ h. absurd (cc))
+
+  rest0 : List Op
+  rest0 = hse_ops c.oscillator (pll_ops c (late_ops pf c (gpio_section pins)))
+
+  S0 : List Op → State → Type 0
+  S0 ops s = Sound (IsLegal tb want) (FieldsAre want sys c) ops s
+
+  go0 : (ax ay pw bx b2 qw : ℕ) (one : Op) (ops : List Op) → Takes pw → act (state0 ax ay pw) one ≡ (stepped.Went, state0 bx b2 qw) → S0 ops (state0 bx b2 qw) → S0 (one ∷ ops) (state0 ax ay pw)
+  unfolding S0
+  go0 ax ay pw bx b2 qw one ops hn went rest = sound_op (IsLegal tb want) (FieldsAre want sys c) one ops (state0 ax ay pw) (λ a. state0 bx b2 qw) (legal0 ax ay pw hn)
+      (λ a. subst (IsLegal tb want) (sym (flags0 ax ay pw a)) (legal0 ax ay pw hn))
+      (λ a. ap (λ u. after one ops (act u one)) (flags0 ax ay pw a) ∙ ap (after one ops) went)
+      (λ a. rest)
+
+  went_apb : act (state0 0 0 16384) (op.Modify reg.Apb1enr 0 268435456) ≡ (stepped.Went, state0 268435456 0 16384)
+  unfolding state0
+  went_apb = refl
+
+  went_read : act (state0 268435456 0 16384) (op.Read reg.Apb1enr) ≡ (stepped.Went, state0 268435456 268435456 16384)
+  unfolding state0
+  went_read = refl
+
+  went_vos : act (state0 268435456 268435456 16384) (op.Modify reg.PwrCr 16384 0) ≡ (stepped.Went, state0 268435456 268435456 0)
+  unfolding state0
+  went_vos = refl
+
+  vos_if : (b : Bool) → c.vos2 ≡ b → S0 (vos_ops b rest0) (state0 0 0 16384)
+  unfolding S0 state0 rest0 Takes
+  vos_if false e = after_vos pf oi by 0 0 16384 tb want sys c f t t.nodes1 pins link g whole_pins (ap (λ b. scale_limit tb (cond b 2 1)) (sym e)) suits
+  vos_if true e =
+      let ops = rest0 in
+      go0 0 0 16384 268435456 0 16384 (op.Modify reg.Apb1enr 0 268435456) (op.Read reg.Apb1enr ∷ op.Modify reg.PwrCr 16384 0 ∷ ops) t.nodes1 went_apb
+      (go0 268435456 0 16384 268435456 268435456 16384 (op.Read reg.Apb1enr) (op.Modify reg.PwrCr 16384 0 ∷ ops) t.nodes1 went_read
+      (go0 268435456 268435456 16384 268435456 268435456 0 (op.Modify reg.PwrCr 16384 0) ops t.nodes1 went_vos
+      (after_vos pf oi by 268435456 268435456 0 tb want sys c f t (t.nodes2 e) pins link g whole_pins (ap (λ b. scale_limit tb (cond b 2 1)) (sym e)) suits)))
+
+  pub writes_sound : Sound (IsLegal tb want) (FieldsAre want sys c) (vos_ops c.vos2 (hse_ops c.oscillator (pll_ops c (late_ops pf c (gpio_section pins))))) (at pf oi by 0 0 16384 129 603992080 0 0 false false 0 0 false 0)
+  unfolding S0 state0 rest0
+  writes_sound = vos_if c.vos2 refl

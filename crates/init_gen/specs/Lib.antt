@@ -1,0 +1,4 @@
+pub mod Codes
+pub mod Good
+pub mod PinWrites
+pub mod Writes
