@@ -45,7 +45,7 @@ some_any (suc n) p e = elim (bool_cases (p n)) [
   | inr q ↦ let h = some_any n p (without (any_below n p) (p n) e q) in (h.0, omega (arith, h.1), h.2)
 ]
 
-full_size : (n m : ℕ) (fits : ℕ → ℕ → Bool) (full : IsFull n m fits) → size_of n full.0 ≡ n
+pub full_size : (n m : ℕ) (fits : ℕ → ℕ → Bool) (full : IsFull n m fits) → size_of n full.0 ≡ n
 full_size n m fits full = sum_same n (λ v. one_if (is_some (full.0 v))) (λ v. 1) (λ v l. ap (λ q. one_if (is_some q)) (full.2 v l).1) ∙ ones_sum n
 
 part_of : (a b : Bool) → one_if (a && b) ≤ one_if a

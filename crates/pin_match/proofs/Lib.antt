@@ -1,7 +1,9 @@
 pub mod CountLemmas
 pub mod ExchangeLemmas
 pub mod HallLemmas
+pub mod LargestLemmas
 pub mod PairLemmas
 pub mod SearchLemmas
 pub mod SetLemmas
 pub mod WalkLemmas
+pub mod WordLemmas

@@ -8,5 +8,5 @@ mod search;
 mod sets;
 mod walk;
 
-pub use laws::largest_where_closed;
+pub use laws::{largest_is_computed, largest_where_closed};
 pub use matcher::Matcher;

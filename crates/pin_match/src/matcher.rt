@@ -3,6 +3,7 @@ ghost use Rattle.pin_match.specs.Sets.{fits_in};
 ghost use Rattle.pin_match.specs.Pairs.{IsMatch, IsClosed, given_in};
 ghost use Rattle.pin_match.specs.Assignments.{size_of, IsFull};
 ghost use Rattle.pin_match.specs.Hall.{IsHall};
+ghost use Rattle.pin_match.specs.Largest.{hall_of};
 ghost use Rattle.pin_match.specs.Walks.{IsSetOf};
 
 use crate::matching::{Match, give, keep, take_free};
@@ -59,6 +60,7 @@ impl Matcher {
         ensures same { self.new ≡ self.old }
         ensures none { IsNone result ↔ IsFull self.old.variables self.old.resources (fits_in sets.now) }
         ensures left_out { IfSome result (IsHall self.old.variables self.old.resources (fits_in sets.now)) }
+        ensures computed { result ≡ hall_of self.old.variables self.old.resources (fits_in sets.now) }
     {
         let resources = self.resources;
         keep(&mut self.matching, sets, resources);
