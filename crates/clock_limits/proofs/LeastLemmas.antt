@@ -18,8 +18,9 @@ met_below : (low : ℕ) (es : List (ℕ × Bool)) (j : ℕ) → Ascends low es �
 met_below low [] j up below = refl
 met_below low (e ∷ es) j up below =
     elim (eqb_tells e.0 j) [
-      inl y ↦ absurd (omega (arith, y.1, up.0))
-    | inr n ↦ rw n.0 (met_below (e.0 + 1) es j up.2 (omega (arith, up.0))) ]
+      | inl y ↦ absurd (omega (arith, y.1, up.0))
+      | inr n ↦ rw n.0 (met_below (e.0 + 1) es j up.2 (omega (arith, up.0)))
+    ]
 
 abbrev First : ℕ → List (ℕ × Bool) → Option ℕ → Type 0
 First low es None = (j : ℕ) → is_met j es ≡ true
@@ -74,4 +75,4 @@ pub shown_is_least : ShownIsLeast
 shown_is_least t f values b =
     let es = limits_over t f (allowed values b) in
     same_least (λ k. is_met k es) (λ k. not (shows_limit t f values b k)) (λ k. not_not (is_met k es)) (first_broken es)
-      (least_of_first es (first_broken es) (first_of 3 es (box_tests t f (allowed values b))))
+    (least_of_first es (first_broken es) (first_of 3 es (box_tests t f (allowed values b))))
