@@ -1,11 +1,11 @@
 -- The first limit that is broken is the least.
-use Rattle.std.proofs.Common.{◌≡◌, ℕ, ◌+◌, ◌<◌, ◌≤◌, Bool, true, false, not, cond, nat_eq, Option, Some, None, List, [], ◌∷◌, ◌⊎◌, inl, inr, ◌∙◌, refl, arith}
+use Rattle.std.proofs.Common.{◌≡◌, ℕ, ◌+◌, ◌<◌, ◌≤◌, Bool, true, false, not, cond, Option, Some, None, List, [], ◌∷◌, inl, inr, ◌∙◌, refl, arith}
 use Rattle.res_model.specs.declared.clock.ClockChoice.{ClockChoice}
 use Rattle.res_model.specs.declared.clock.Facts.{Facts}
 use Rattle.res_model.specs.declared.table.TableParts.{TableParts}
 use Rattle.std.proofs.lemmas.Bool.Decides.{eqb_tells}
-use Rattle.res_model.specs.Limits.{limits_of, is_met, first_broken, meets_limit, broken_limit}
-use Rattle.res_model.specs.Ranges.{Allowed, allowed, limits_over, shows_limit, shown_limit}
+use Rattle.res_model.specs.Limits.{limits_of, is_met, first_broken, broken_limit}
+use Rattle.res_model.specs.Ranges.{Allowed, allowed, limits_over, shows_limit}
 use Rattle.clock_limits.specs.Laws.{IsLeastBroken, BrokenIsLeast, ShownIsLeast}
 
 -- numbers that ascend from a least one

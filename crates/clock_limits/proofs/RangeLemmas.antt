@@ -1,8 +1,8 @@
 -- Ranges have the nodes of each choice in the box.
-use Rattle.std.proofs.Common.{◌≡◌, ℕ, ◌+◌, ◌*◌, ◌<◌, ◌≤◌, Bool, true, false, cond, nat_eq, Option, Some, None, List, [], ◌∷◌, length, ◌⊎◌, inl, inr, ⊎_elim, refl, sym, subst, arith}
+use Rattle.std.proofs.Common.{◌≡◌, ℕ, ◌+◌, ◌*◌, ◌<◌, Bool, true, false, cond, nat_eq, Option, Some, None, List, [], ◌∷◌, ⊎_elim, refl, subst, arith}
 use Rattle.std.proofs.lemmas.Nat.{mul-le}
 use Rattle.res_base.specs.Fraction.{Fraction, IsAtMost, at_most, whole, times, over}
-use Rattle.res_base.specs.Lists.{Each, Member}
+use Rattle.res_base.specs.Lists.{Member}
 use Rattle.res_model.specs.Table.{hsi}
 use Rattle.res_model.specs.declared.clock.ClockChoice.{ClockChoice}
 use Rattle.res_model.specs.declared.clock.Facts.{Facts}
@@ -13,7 +13,7 @@ use Rattle.res_model.specs.Clock.{output, pll_input, vco_in_of, vco_of, system_o
 use Rattle.res_model.specs.Limits.{is_as_wished, is_equal}
 use Rattle.res_model.specs.Ranges.{Allowed, IsAllowed, IsWithin, exactly, joined, divided, multiplied, output_range, with_outputs, outputs, code_of, least_of, greatest_of, has, narrowed, input_range, vco_in_range, vco_range, system_output_range, clk48_range, sysclk_range, hclk_reach, hclk_range, pclk1_range, pclk2_range}
 use Rattle.clock_limits.specs.Fair.{IsFair, IsSpread}
-use Rattle.clock_limits.proofs.FractionLemmas.{test_of, fact_of, other_way, same_is_at_most, times_mono, over_mono, at_most_trans, and_left, and_right}
+use Rattle.clock_limits.proofs.FractionLemmas.{fact_of, other_way, same_is_at_most, times_mono, over_mono, at_most_trans, and_left, and_right}
 use Rattle.clock_limits.proofs.SpreadLemmas.{least_each, greatest_each}
 
 -- both ends are fractions

@@ -1,10 +1,9 @@
 -- A limit that is shown for a box leaves no choice in it that meets the limit.
-use Rattle.std.proofs.Common.{◌≡◌, ℕ, ◌+◌, ◌<◌, ◌≤◌, Bool, true, false, ◌&&◌, ◌||◌, not, cond, eqb, nat_eq, Option, Some, None, List, [], ◌∷◌, ◌⊎◌, inl, inr, ⊎_elim, refl, sym, subst, arith}
+use Rattle.std.proofs.Common.{◌≡◌, ℕ, ◌<◌, Bool, true, false, ◌&&◌, ◌||◌, not, cond, nat_eq, Option, Some, None, List, [], ◌∷◌, ◌⊎◌, inl, inr, ⊎_elim, refl, sym, subst}
 use Rattle.std.proofs.lemmas.Bool.Decides.{eqb_tells}
 use Rattle.std.specs.List.{list_any, list_all}
-use Rattle.res_base.specs.Fraction.{Fraction, IsAtMost, at_most, whole, over}
+use Rattle.res_base.specs.Fraction.{Fraction, IsAtMost, at_most, whole}
 use Rattle.res_base.specs.Lists.{Member}
-use Rattle.res_model.specs.declared.clock.ClockBox.{ClockBox}
 use Rattle.res_model.specs.declared.clock.ClockChoice.{ClockChoice}
 use Rattle.res_model.specs.declared.clock.Facts.{Facts}
 use Rattle.res_model.specs.declared.clock.Range.{Range}
@@ -13,13 +12,13 @@ use Rattle.res_model.specs.declared.clock.Src.TheVariants.{Hsi, Hse, Pll}
 use Rattle.res_model.specs.declared.table.TableParts.{TableParts}
 use Rattle.res_model.specs.Clock.{is_hse, is_pll, pll_used, hse_used, vco_in_of, vco_of, clk48_of, sysclk_of, hclk_of, pclk1_of, pclk2_of}
 use Rattle.res_model.specs.Limits.{where_so, are_within, is_equal, is_as_wished, is_fed, mhz_48, limits_of, is_met, meets_limit}
-use Rattle.res_model.specs.Power.{flash_rows, is_covered_by, is_covered, scale_limit, is_within_max}
-use Rattle.res_model.specs.Ranges.{AreInRange, IsClockBox, Allowed, allowed, IsAllowed, IsIn, IsWithin, code_of, sure_pll, sure_hse, overlaps, has, has_wish, vco_in_range, vco_range, clk48_range, sysclk_range, hclk_reach, hclk_range, pclk1_range, pclk2_range, limits_over, shows_limit, stands_alone}
+use Rattle.res_model.specs.Power.{flash_rows, is_covered_by, scale_limit, is_within_max}
+use Rattle.res_model.specs.Ranges.{Allowed, allowed, IsAllowed, IsWithin, code_of, sure_pll, sure_hse, overlaps, has, has_wish, vco_in_range, vco_range, clk48_range, sysclk_range, hclk_reach, hclk_range, pclk1_range, pclk2_range, limits_over, stands_alone}
 use Rattle.clock_limits.specs.Fair.{IsFair}
 use Rattle.clock_limits.specs.Laws.{ShownIsBroken, ShownAloneIsBroken}
 use Rattle.clock_limits.proofs.FairLemmas.{box_is_fair}
 use Rattle.clock_limits.proofs.FractionLemmas.{from_below, to_above, and_left, and_right, both}
-use Rattle.clock_limits.proofs.RangeLemmas.{ArePositive, nodes_positive, vco_in_within, vco_within, clk48_within, sysclk_within, reach_within, hclk_within, pclk1_within, pclk2_within}
+use Rattle.clock_limits.proofs.RangeLemmas.{nodes_positive, vco_in_within, vco_within, clk48_within, sysclk_within, reach_within, hclk_within, pclk1_within, pclk2_within}
 
 -- ---- tests of a node against tests of its range
 within_overlaps : (bounds : ℕ × ℕ) (r : Range) (x : Fraction) → 0 < x.den → IsWithin r x → are_within bounds x ≡ true → overlaps bounds r ≡ true

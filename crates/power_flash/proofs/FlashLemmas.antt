@@ -1,12 +1,12 @@
 -- Laws of flash rows.
-use Rattle.std.proofs.Common.{◌≡◌, ℕ, zero, suc, ◌+◌, ◌*◌, ◌<◌, ◌≤◌, Bool, true, false, ◌||◌, cond, Option, Some, None, List, [], ◌∷◌, length, find, get_or, leb, ◌-◌, is_some, IfSome, IfNone, ◌⊎◌, inl, inr, refl, sym, ap, ◌∙◌, arith}
-use Rattle.std.specs.List.{list_any, position_from}
+use Rattle.std.proofs.Common.{◌≡◌, ℕ, zero, suc, ◌+◌, ◌*◌, ◌<◌, ◌≤◌, Bool, true, false, cond, Option, Some, None, List, [], ◌∷◌, length, find, get_or, leb, IfSome, IfNone, inl, inr, refl, sym, arith}
+use Rattle.std.specs.List.{position_from}
 use Rattle.std.proofs.lemmas.Bool.Decides.{leb_tells}
 use Rattle.res_base.specs.Fraction.{Fraction, IsAtMost, whole}
 use Rattle.res_base.specs.Lists.{Each}
 use Rattle.res_model.specs.declared.table.FlashRange.{FlashRange}
 use Rattle.res_model.specs.declared.table.TableParts.{TableParts}
-use Rattle.res_model.specs.Power.{has_supply, range_at, rows_of_range, flash_rows, RowCovers, is_covered_by, is_covered, wait_of}
+use Rattle.res_model.specs.Power.{has_supply, range_at, rows_of_range, flash_rows, is_covered_by}
 use Rattle.res_model.specs.Valid.{IsFlashRange, IsValid}
 
 found_few : (p : FlashRange → Bool) (rs : List FlashRange) → Each IsFlashRange rs → length (rows_of_range (find p rs)) ≤ 8
