@@ -1,9 +1,9 @@
 -- The values of a box are within the widest.
-use Rattle.std.proofs.Common.{◌≡◌, ℕ, zero, suc, ◌+◌, ◌-◌, ◌<◌, ◌≤◌, List, [], ◌∷◌, length, take, drop, get_or, arith, length-drop, length-take}
+use Rattle.std.proofs.Common.{ℕ, ◌+◌, ◌-◌, ◌<◌, List, length, drop, get_or, arith, length-drop, length-take}
 use Rattle.res_base.specs.Lists.{Each}
 use Rattle.res_model.specs.declared.clock.ClockBox.{ClockBox}
 use Rattle.res_model.specs.Clock.{IsBetween}
-use Rattle.res_model.specs.Ranges.{AreInRange, IsClockBox, IsRun, Allowed, allowed, run_of, values_at}
+use Rattle.res_model.specs.Ranges.{AreInRange, IsClockBox, IsRun, allowed, run_of, values_at}
 use Rattle.clock_limits.specs.Fair.{IsFair, IsSpread}
 use Rattle.clock_limits.proofs.SpreadLemmas.{each_take, each_drop, least_between, greatest_between}
 

@@ -1,9 +1,9 @@
 -- Fractions in order.
-use Rattle.std.proofs.Common.{◌≡◌, ℕ, ◌+◌, ◌*◌, ◌<◌, ◌≤◌, Bool, true, false, ◌&&◌, ◌||◌, not, cond, leb, Option, Some, None, List, [], ◌∷◌, ◌⊎◌, inl, inr, refl, sym, ap, ◌∙◌, arith}
+use Rattle.std.proofs.Common.{◌≡◌, ℕ, ◌*◌, ◌<◌, ◌≤◌, Bool, true, false, ◌&&◌, ◌||◌, inl, inr, refl, sym, arith}
 use Rattle.std.proofs.lemmas.Bool.Decides.{leb_tells}
 use Rattle.std.proofs.lemmas.Nat.{mul-le}
 use Rattle.std.proofs.Math.Nat.{le_of_mul-le-mul_right}
-use Rattle.res_base.specs.Fraction.{Fraction, IsAtMost, at_most, whole, times, over}
+use Rattle.res_base.specs.Fraction.{Fraction, IsAtMost, at_most, times, over}
 
 pub test_of : (a b : Fraction) → IsAtMost a b → at_most a b ≡ true
 test_of a b h = elim (leb_tells (a.num * b.den) (b.num * a.den)) [ inl t ↦ t.0 | inr n ↦ absurd (omega (arith, h, n.1)) ]

@@ -1,11 +1,11 @@
 -- The first limit that is broken is the least.
-use Rattle.std.proofs.Common.{◌≡◌, ℕ, ◌+◌, ◌<◌, ◌≤◌, Bool, true, false, not, cond, nat_eq, Option, Some, None, List, [], ◌∷◌, ◌⊎◌, inl, inr, ◌∙◌, refl, arith}
+use Rattle.std.proofs.Common.{◌≡◌, ℕ, ◌+◌, ◌<◌, ◌≤◌, Bool, true, false, not, cond, Option, Some, None, List, [], ◌∷◌, inl, inr, ◌∙◌, refl, arith}
 use Rattle.res_model.specs.declared.clock.ClockChoice.{ClockChoice}
 use Rattle.res_model.specs.declared.clock.Facts.{Facts}
 use Rattle.res_model.specs.declared.table.TableParts.{TableParts}
 use Rattle.std.proofs.lemmas.Bool.Decides.{eqb_tells}
-use Rattle.res_model.specs.Limits.{limits_of, is_met, first_broken, meets_limit, broken_limit}
-use Rattle.res_model.specs.Ranges.{Allowed, allowed, limits_over, shows_limit, shown_limit}
+use Rattle.res_model.specs.Limits.{limits_of, is_met, first_broken, broken_limit}
+use Rattle.res_model.specs.Ranges.{Allowed, allowed, limits_over, shows_limit}
 use Rattle.clock_limits.specs.Laws.{IsLeastBroken, BrokenIsLeast, ShownIsLeast}
 
 -- numbers that ascend from a least one
@@ -18,8 +18,9 @@ met_below : (low : ℕ) (es : List (ℕ × Bool)) (j : ℕ) → Ascends low es �
 met_below low [] j up below = refl
 met_below low (e ∷ es) j up below =
     elim (eqb_tells e.0 j) [
-      inl y ↦ absurd (omega (arith, y.1, up.0))
-    | inr n ↦ rw n.0 (met_below (e.0 + 1) es j up.2 (omega (arith, up.0))) ]
+      | inl y ↦ absurd (omega (arith, y.1, up.0))
+      | inr n ↦ rw n.0 (met_below (e.0 + 1) es j up.2 (omega (arith, up.0)))
+    ]
 
 abbrev First : ℕ → List (ℕ × Bool) → Option ℕ → Type 0
 First low es None = (j : ℕ) → is_met j es ≡ true
@@ -74,4 +75,4 @@ pub shown_is_least : ShownIsLeast
 shown_is_least t f values b =
     let es = limits_over t f (allowed values b) in
     same_least (λ k. is_met k es) (λ k. not (shows_limit t f values b k)) (λ k. not_not (is_met k es)) (first_broken es)
-      (least_of_first es (first_broken es) (first_of 3 es (box_tests t f (allowed values b))))
+    (least_of_first es (first_broken es) (first_of 3 es (box_tests t f (allowed values b))))

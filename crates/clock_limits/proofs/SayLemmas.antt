@@ -1,5 +1,5 @@
 -- Each test tells whether its sentence holds.
-use Rattle.std.proofs.Common.{◌≡◌, ℕ, zero, suc, ◌+◌, ◌*◌, ◌<◌, ◌≤◌, Bool, true, false, ◌&&◌, ◌||◌, not, leb, Option, Some, None, List, [], ◌∷◌, length, get_or, ◌⊎◌, inl, inr, ⊎_elim, refl, sym, subst, arith}
+use Rattle.std.proofs.Common.{◌≡◌, ℕ, zero, suc, ◌<◌, ◌≤◌, Bool, true, false, ◌&&◌, ◌||◌, leb, Option, Some, None, List, [], ◌∷◌, length, get_or, inl, inr, refl, arith}
 use Rattle.std.specs.Prelude.{◌↔◌, IsTrue}
 use Rattle.std.specs.List.{list_any}
 use Rattle.std.proofs.lemmas.Bool.Decides.{leb_tells}
@@ -20,14 +20,16 @@ where_says true test s = (λ e i. s.0 e, λ h. s.1 (h refl))
 where_says false test s = (λ e i. absurd (cc), λ h. refl)
 
 within_says : (bounds : ℕ × ℕ) (x : Fraction) → IsTrue (are_within bounds x) ↔ AreWithin bounds x
-within_says bounds x =
-    (λ e. (fact_of (whole bounds.0) x (and_left (at_most (whole bounds.0) x) (at_most x (whole bounds.1)) e), fact_of x (whole bounds.1) (and_right (at_most (whole bounds.0) x) (at_most x (whole bounds.1)) e)),
-     λ h. both (at_most (whole bounds.0) x) (at_most x (whole bounds.1)) (test_of (whole bounds.0) x h.0) (test_of x (whole bounds.1) h.1))
+within_says bounds x = (
+  λ e. (fact_of (whole bounds.0) x (and_left (at_most (whole bounds.0) x) (at_most x (whole bounds.1)) e), fact_of x (whole bounds.1) (and_right (at_most (whole bounds.0) x) (at_most x (whole bounds.1)) e)),
+  λ h. both (at_most (whole bounds.0) x) (at_most x (whole bounds.1)) (test_of (whole bounds.0) x h.0) (test_of x (whole bounds.1) h.1),
+)
 
 equal_says : (x y : Fraction) → IsTrue (is_equal x y) ↔ Equals x y
-equal_says x y =
-    (λ e. let h = fact_of x y (and_left (at_most x y) (at_most y x) e) in let k = fact_of y x (and_right (at_most x y) (at_most y x) e) in omega (arith, h, k),
-     λ h. both (at_most x y) (at_most y x) (test_of x y (omega (arith, h))) (test_of y x (omega (arith, h))))
+equal_says x y = (
+  λ e. let h = fact_of x y (and_left (at_most x y) (at_most y x) e) in let k = fact_of y x (and_right (at_most x y) (at_most y x) e) in omega (arith, h, k),
+  λ h. both (at_most x y) (at_most y x) (test_of x y (omega (arith, h))) (test_of y x (omega (arith, h))),
+)
 
 wished_says : (wish : Option ℕ) (x : Fraction) → IsTrue (is_as_wished wish x) ↔ IsAsWished wish x
 wished_says None x = (λ e. tt, λ h. refl)
@@ -48,9 +50,10 @@ fed_says t f =
     let low = (hse_bounds t f).0 in
     let high = (hse_bounds t f).1 in
     let least = leb low f.hse_hz in
-    let most = leb f.hse_hz high in
-    (λ e. (and_left f.osc_in (least && most) e, (leb_true low f.hse_hz (and_left least most (and_right f.osc_in (least && most) e)), leb_true f.hse_hz high (and_right least most (and_right f.osc_in (least && most) e)))),
-     λ h. both f.osc_in (least && most) h.0 (both least most (leb_of low f.hse_hz h.1.0) (leb_of f.hse_hz high h.1.1)))
+    let most = leb f.hse_hz high in (
+      λ e. (and_left f.osc_in (least && most) e, (leb_true low f.hse_hz (and_left least most (and_right f.osc_in (least && most) e)), leb_true f.hse_hz high (and_right least most (and_right f.osc_in (least && most) e)))),
+      λ h. both f.osc_in (least && most) h.0 (both least most (leb_of low f.hse_hz h.1.0) (leb_of f.hse_hz high h.1.1)),
+    )
 
 row_of : (x : Fraction) (rows : List ℕ) → list_any (is_covered_by x) rows ≡ true → (w : ℕ) × (w < length rows) × IsAtMost x (whole (get_or rows w 0))
 row_of x [] e = absurd (cc)
@@ -70,25 +73,26 @@ row_at x (row ∷ rows) (suc w) inside h = or_later (at_most x (whole row)) (lis
     or_later false v e = e
 
 covered_says : (t : TableParts) (vdd : ℕ) (x : Fraction) → IsTrue (is_covered t vdd x) ↔ ((w : ℕ) × RowCovers t vdd w x)
-covered_says t vdd x =
-    (λ e. let r = row_of x (flash_rows t vdd) e in (r.0, (r.1, r.2)),
-     λ h. row_at x (flash_rows t vdd) h.0 h.1.0 h.1.1)
+covered_says t vdd x = (
+  λ e. let r = row_of x (flash_rows t vdd) e in (r.0, (r.1, r.2)),
+  λ h. row_at x (flash_rows t vdd) h.0 h.1.0 h.1.1,
+)
 
 pub tests_tell : (t : TableParts) (f : Facts) (c : ClockChoice) → TestsTell t f c
 unfolding limits_of
 tests_tell t f c = record {
-    hse = where_says (hse_used f c) (is_fed t f) (fed_says t f);
-    vco_in = where_says (pll_used f c) (are_within t.limits.vco_in (vco_in_of f c)) (within_says t.limits.vco_in (vco_in_of f c));
-    vco = where_says (pll_used f c) (are_within t.limits.vco (vco_of f c)) (within_says t.limits.vco (vco_of f c));
-    sysclk = at_most_says (sysclk_of f c) (whole t.limits.sysclk);
-    scale = max_says (scale_limit t c.vos) (hclk_of f c);
-    pclk1 = at_most_says (pclk1_of f c) (whole t.limits.pclk1);
-    pclk2 = at_most_says (pclk2_of f c) (whole t.limits.pclk2);
-    exact48 = where_says f.exact48 (is_equal (clk48_of f c) (whole mhz_48)) (equal_says (clk48_of f c) (whole mhz_48));
-    most48 = where_says f.most48 (at_most (clk48_of f c) (whole mhz_48)) (at_most_says (clk48_of f c) (whole mhz_48));
-    floor = at_most_says (whole f.floor) (hclk_of f c);
-    covered = covered_says t f.vdd (hclk_of f c);
-    hclk_wish = wished_says f.hclk (hclk_of f c);
-    pclk1_wish = wished_says f.pclk1 (pclk1_of f c);
-    pclk2_wish = wished_says f.pclk2 (pclk2_of f c)
-  }
+  hse = where_says (hse_used f c) (is_fed t f) (fed_says t f);
+  vco_in = where_says (pll_used f c) (are_within t.limits.vco_in (vco_in_of f c)) (within_says t.limits.vco_in (vco_in_of f c));
+  vco = where_says (pll_used f c) (are_within t.limits.vco (vco_of f c)) (within_says t.limits.vco (vco_of f c));
+  sysclk = at_most_says (sysclk_of f c) (whole t.limits.sysclk);
+  scale = max_says (scale_limit t c.vos) (hclk_of f c);
+  pclk1 = at_most_says (pclk1_of f c) (whole t.limits.pclk1);
+  pclk2 = at_most_says (pclk2_of f c) (whole t.limits.pclk2);
+  exact48 = where_says f.exact48 (is_equal (clk48_of f c) (whole mhz_48)) (equal_says (clk48_of f c) (whole mhz_48));
+  most48 = where_says f.most48 (at_most (clk48_of f c) (whole mhz_48)) (at_most_says (clk48_of f c) (whole mhz_48));
+  floor = at_most_says (whole f.floor) (hclk_of f c);
+  covered = covered_says t f.vdd (hclk_of f c);
+  hclk_wish = wished_says f.hclk (hclk_of f c);
+  pclk1_wish = wished_says f.pclk1 (pclk1_of f c);
+  pclk2_wish = wished_says f.pclk2 (pclk2_of f c);
+}

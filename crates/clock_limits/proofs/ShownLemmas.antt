@@ -1,10 +1,9 @@
 -- A limit that is shown for a box leaves no choice in it that meets the limit.
-use Rattle.std.proofs.Common.{◌≡◌, ℕ, ◌+◌, ◌<◌, ◌≤◌, Bool, true, false, ◌&&◌, ◌||◌, not, cond, eqb, nat_eq, Option, Some, None, List, [], ◌∷◌, ◌⊎◌, inl, inr, ⊎_elim, refl, sym, subst, arith}
+use Rattle.std.proofs.Common.{◌≡◌, ℕ, ◌<◌, Bool, true, false, ◌&&◌, ◌||◌, not, cond, nat_eq, Option, Some, None, List, [], ◌∷◌, ◌⊎◌, inl, inr, ⊎_elim, refl, sym, subst}
 use Rattle.std.proofs.lemmas.Bool.Decides.{eqb_tells}
 use Rattle.std.specs.List.{list_any, list_all}
-use Rattle.res_base.specs.Fraction.{Fraction, IsAtMost, at_most, whole, over}
+use Rattle.res_base.specs.Fraction.{Fraction, IsAtMost, at_most, whole}
 use Rattle.res_base.specs.Lists.{Member}
-use Rattle.res_model.specs.declared.clock.ClockBox.{ClockBox}
 use Rattle.res_model.specs.declared.clock.ClockChoice.{ClockChoice}
 use Rattle.res_model.specs.declared.clock.Facts.{Facts}
 use Rattle.res_model.specs.declared.clock.Range.{Range}
@@ -13,26 +12,26 @@ use Rattle.res_model.specs.declared.clock.Src.TheVariants.{Hsi, Hse, Pll}
 use Rattle.res_model.specs.declared.table.TableParts.{TableParts}
 use Rattle.res_model.specs.Clock.{is_hse, is_pll, pll_used, hse_used, vco_in_of, vco_of, clk48_of, sysclk_of, hclk_of, pclk1_of, pclk2_of}
 use Rattle.res_model.specs.Limits.{where_so, are_within, is_equal, is_as_wished, is_fed, mhz_48, limits_of, is_met, meets_limit}
-use Rattle.res_model.specs.Power.{flash_rows, is_covered_by, is_covered, scale_limit, is_within_max}
-use Rattle.res_model.specs.Ranges.{AreInRange, IsClockBox, Allowed, allowed, IsAllowed, IsIn, IsWithin, code_of, sure_pll, sure_hse, overlaps, has, has_wish, vco_in_range, vco_range, clk48_range, sysclk_range, hclk_reach, hclk_range, pclk1_range, pclk2_range, limits_over, shows_limit, stands_alone}
+use Rattle.res_model.specs.Power.{flash_rows, is_covered_by, scale_limit, is_within_max}
+use Rattle.res_model.specs.Ranges.{Allowed, allowed, IsAllowed, IsWithin, code_of, sure_pll, sure_hse, overlaps, has, has_wish, vco_in_range, vco_range, clk48_range, sysclk_range, hclk_reach, hclk_range, pclk1_range, pclk2_range, limits_over, stands_alone}
 use Rattle.clock_limits.specs.Fair.{IsFair}
 use Rattle.clock_limits.specs.Laws.{ShownIsBroken, ShownAloneIsBroken}
 use Rattle.clock_limits.proofs.FairLemmas.{box_is_fair}
 use Rattle.clock_limits.proofs.FractionLemmas.{from_below, to_above, and_left, and_right, both}
-use Rattle.clock_limits.proofs.RangeLemmas.{ArePositive, nodes_positive, vco_in_within, vco_within, clk48_within, sysclk_within, reach_within, hclk_within, pclk1_within, pclk2_within}
+use Rattle.clock_limits.proofs.RangeLemmas.{nodes_positive, vco_in_within, vco_within, clk48_within, sysclk_within, reach_within, hclk_within, pclk1_within, pclk2_within}
 
 -- ---- tests of a node against tests of its range
 within_overlaps : (bounds : ℕ × ℕ) (r : Range) (x : Fraction) → 0 < x.den → IsWithin r x → are_within bounds x ≡ true → overlaps bounds r ≡ true
 within_overlaps bounds r x p w e =
     both (at_most (whole bounds.0) r.most) (at_most r.least (whole bounds.1))
-      (to_above (whole bounds.0) x r.most p w.below (and_left (at_most (whole bounds.0) x) (at_most x (whole bounds.1)) e))
-      (from_below r.least x (whole bounds.1) p w.above (and_right (at_most (whole bounds.0) x) (at_most x (whole bounds.1)) e))
+    (to_above (whole bounds.0) x r.most p w.below (and_left (at_most (whole bounds.0) x) (at_most x (whole bounds.1)) e))
+    (from_below r.least x (whole bounds.1) p w.above (and_right (at_most (whole bounds.0) x) (at_most x (whole bounds.1)) e))
 
 equal_has : (r : Range) (x y : Fraction) → 0 < x.den → IsWithin r x → is_equal x y ≡ true → has r y ≡ true
 equal_has r x y p w e =
     both (at_most r.least y) (at_most y r.most)
-      (from_below r.least x y p w.above (and_left (at_most x y) (at_most y x) e))
-      (to_above y x r.most p w.below (and_right (at_most x y) (at_most y x) e))
+    (from_below r.least x y p w.above (and_left (at_most x y) (at_most y x) e))
+    (to_above y x r.most p w.below (and_right (at_most x y) (at_most y x) e))
 
 wished_has : (wish : Option ℕ) (r : Range) (x : Fraction) → 0 < x.den → IsWithin r x → is_as_wished wish x ≡ true → has_wish wish r ≡ true
 wished_has None r x p w e = refl
@@ -59,6 +58,7 @@ any_member test (u ∷ us) v m e =
     any_first : (s v : Bool) → s ≡ true → (s || v) ≡ true
     any_first true v e = refl
     any_first false v e = absurd (cc)
+
     any_later : (s v : Bool) → v ≡ true → (s || v) ≡ true
     any_later true v e = refl
     any_later false v e = e
@@ -94,19 +94,19 @@ is_hse_code Pll e = absurd (cc)
 pll_is_used : (f : Facts) (a : Allowed) (c : ClockChoice) → IsAllowed c a → sure_pll f a ≡ true → pll_used f c ≡ true
 pll_is_used f a c is e =
     ⊎_elim
-      (λ all. or_left (is_pll c.src) f.need48 (is_pll_code c.src (all_member (λ s. nat_eq s 2) a.src (code_of c.src) all is.src)))
-      (λ need. or_right (is_pll c.src) f.need48 need)
-      (or_cases (list_all (λ s. nat_eq s 2) a.src) f.need48 e)
+    (λ all. or_left (is_pll c.src) f.need48 (is_pll_code c.src (all_member (λ s. nat_eq s 2) a.src (code_of c.src) all is.src)))
+    (λ need. or_right (is_pll c.src) f.need48 need)
+    (or_cases (list_all (λ s. nat_eq s 2) a.src) f.need48 e)
 
 hse_is_used : (f : Facts) (a : Allowed) (c : ClockChoice) → IsAllowed c a → sure_hse f a ≡ true → hse_used f c ≡ true
 hse_is_used f a c is e =
     ⊎_elim
-      (λ all. or_left (is_hse c.src) (pll_used f c && is_hse c.psrc) (is_hse_code c.src (all_member (λ s. nat_eq s 1) a.src (code_of c.src) all is.src)))
-      (λ pll. or_right (is_hse c.src) (pll_used f c && is_hse c.psrc)
-        (both (pll_used f c) (is_hse c.psrc)
-          (pll_is_used f a c is (and_left (sure_pll f a) (list_all (λ s. nat_eq s 1) a.psrc) pll))
-          (is_hse_code c.psrc (all_member (λ s. nat_eq s 1) a.psrc (code_of c.psrc) (and_right (sure_pll f a) (list_all (λ s. nat_eq s 1) a.psrc) pll) is.psrc))))
-      (or_cases (list_all (λ s. nat_eq s 1) a.src) (sure_pll f a && list_all (λ s. nat_eq s 1) a.psrc) e)
+    (λ all. or_left (is_hse c.src) (pll_used f c && is_hse c.psrc) (is_hse_code c.src (all_member (λ s. nat_eq s 1) a.src (code_of c.src) all is.src)))
+    (λ pll. or_right (is_hse c.src) (pll_used f c && is_hse c.psrc)
+    (both (pll_used f c) (is_hse c.psrc)
+    (pll_is_used f a c is (and_left (sure_pll f a) (list_all (λ s. nat_eq s 1) a.psrc) pll))
+    (is_hse_code c.psrc (all_member (λ s. nat_eq s 1) a.psrc (code_of c.psrc) (and_right (sure_pll f a) (list_all (λ s. nat_eq s 1) a.psrc) pll) is.psrc))))
+    (or_cases (list_all (λ s. nat_eq s 1) a.src) (sure_pll f a && list_all (λ s. nat_eq s 1) a.psrc) e)
 
 where_sure : (sure used m r : Bool) → (sure ≡ true → used ≡ true) → (m ≡ true → r ≡ true) → where_so used m ≡ true → where_so sure r ≡ true
 where_sure false used m r f g e = refl
@@ -145,22 +145,63 @@ unfolding limits_of limits_over
 along only t f a c fair is wish =
     let p = nodes_positive f a c fair is in
     let wished : (k : ℕ) → stands_alone k ≡ false → only k ≡ true → is_as_wished f.hclk (hclk_of f c) ≡ true =
-        λ k rests o. ⊎_elim (λ alone. absurd (cc)) (λ w. w) (wish k o) in
-      (refl, λ o e. where_sure (sure_hse f a) (hse_used f c) (is_fed t f) (is_fed t f) (hse_is_used f a c is) (λ x. x) e,
-      (refl, λ o e. where_sure (sure_pll f a) (pll_used f c) (are_within t.limits.vco_in (vco_in_of f c)) (overlaps t.limits.vco_in (vco_in_range f a)) (pll_is_used f a c is) (within_overlaps t.limits.vco_in (vco_in_range f a) (vco_in_of f c) p.vco_in (vco_in_within f a c is)) e,
-      (refl, λ o e. where_sure (sure_pll f a) (pll_used f c) (are_within t.limits.vco (vco_of f c)) (overlaps t.limits.vco (vco_range f a)) (pll_is_used f a c is) (within_overlaps t.limits.vco (vco_range f a) (vco_of f c) p.vco (vco_within f a c is)) e,
-      (refl, λ o e. from_below (sysclk_range f a).least (sysclk_of f c) (whole t.limits.sysclk) p.sysclk (sysclk_within f a c fair is).above e,
-      (refl, λ o e. any_member (λ vos. is_within_max (hclk_range f a).least (scale_limit t vos)) a.vos c.vos is.vos (max_below (scale_limit t c.vos) (hclk_range f a).least (hclk_of f c) p.hclk (hclk_within f a c fair is (wished 7 refl o)).above e),
-      (refl, λ o e. from_below (pclk1_range f a).least (pclk1_of f c) (whole t.limits.pclk1) p.pclk1 (pclk1_within f a c fair is (wished 8 refl o)).above e,
-      (refl, λ o e. from_below (pclk2_range f a).least (pclk2_of f c) (whole t.limits.pclk2) p.pclk2 (pclk2_within f a c fair is (wished 9 refl o)).above e,
-      (refl, λ o e. where_sure f.exact48 f.exact48 (is_equal (clk48_of f c) (whole mhz_48)) (has (clk48_range f a) (whole mhz_48)) (λ x. x) (equal_has (clk48_range f a) (clk48_of f c) (whole mhz_48) p.clk48 (clk48_within f a c is)) e,
-      (refl, λ o e. where_sure f.most48 f.most48 (at_most (clk48_of f c) (whole mhz_48)) (at_most (clk48_range f a).least (whole mhz_48)) (λ x. x) (from_below (clk48_range f a).least (clk48_of f c) (whole mhz_48) p.clk48 (clk48_within f a c is).above) e,
-      (refl, λ o e. to_above (whole f.floor) (hclk_of f c) (hclk_range f a).most p.hclk (hclk_within f a c fair is (wished 12 refl o)).below e,
-      (refl, λ o e. covered_below (flash_rows t f.vdd) (hclk_range f a).least (hclk_of f c) p.hclk (hclk_within f a c fair is (wished 13 refl o)).above e,
-      (refl, λ o e. wished_has f.hclk (hclk_reach f a) (hclk_of f c) p.hclk (reach_within f a c fair is) e,
-      (refl, λ o e. wished_has f.pclk1 (pclk1_range f a) (pclk1_of f c) p.pclk1 (pclk1_within f a c fair is (wished 15 refl o)) e,
-      (refl, λ o e. wished_has f.pclk2 (pclk2_range f a) (pclk2_of f c) p.pclk2 (pclk2_within f a c fair is (wished 16 refl o)) e,
-      tt))))))))))))))
+    λ k rests o. ⊎_elim (λ alone. absurd (cc)) (λ w. w) (wish k o) in (
+      refl,
+      λ o e. where_sure (sure_hse f a) (hse_used f c) (is_fed t f) (is_fed t f) (hse_is_used f a c is) (λ x. x) e,
+      (
+        refl,
+        λ o e. where_sure (sure_pll f a) (pll_used f c) (are_within t.limits.vco_in (vco_in_of f c)) (overlaps t.limits.vco_in (vco_in_range f a)) (pll_is_used f a c is) (within_overlaps t.limits.vco_in (vco_in_range f a) (vco_in_of f c) p.vco_in (vco_in_within f a c is)) e,
+        (
+          refl,
+          λ o e. where_sure (sure_pll f a) (pll_used f c) (are_within t.limits.vco (vco_of f c)) (overlaps t.limits.vco (vco_range f a)) (pll_is_used f a c is) (within_overlaps t.limits.vco (vco_range f a) (vco_of f c) p.vco (vco_within f a c is)) e,
+          (
+            refl,
+            λ o e. from_below (sysclk_range f a).least (sysclk_of f c) (whole t.limits.sysclk) p.sysclk (sysclk_within f a c fair is).above e,
+            (
+              refl,
+              λ o e. any_member (λ vos. is_within_max (hclk_range f a).least (scale_limit t vos)) a.vos c.vos is.vos (max_below (scale_limit t c.vos) (hclk_range f a).least (hclk_of f c) p.hclk (hclk_within f a c fair is (wished 7 refl o)).above e),
+              (
+                refl,
+                λ o e. from_below (pclk1_range f a).least (pclk1_of f c) (whole t.limits.pclk1) p.pclk1 (pclk1_within f a c fair is (wished 8 refl o)).above e,
+                (
+                  refl,
+                  λ o e. from_below (pclk2_range f a).least (pclk2_of f c) (whole t.limits.pclk2) p.pclk2 (pclk2_within f a c fair is (wished 9 refl o)).above e,
+                  (
+                    refl,
+                    λ o e. where_sure f.exact48 f.exact48 (is_equal (clk48_of f c) (whole mhz_48)) (has (clk48_range f a) (whole mhz_48)) (λ x. x) (equal_has (clk48_range f a) (clk48_of f c) (whole mhz_48) p.clk48 (clk48_within f a c is)) e,
+                    (
+                      refl,
+                      λ o e. where_sure f.most48 f.most48 (at_most (clk48_of f c) (whole mhz_48)) (at_most (clk48_range f a).least (whole mhz_48)) (λ x. x) (from_below (clk48_range f a).least (clk48_of f c) (whole mhz_48) p.clk48 (clk48_within f a c is).above) e,
+                      (
+                        refl,
+                        λ o e. to_above (whole f.floor) (hclk_of f c) (hclk_range f a).most p.hclk (hclk_within f a c fair is (wished 12 refl o)).below e,
+                        (
+                          refl,
+                          λ o e. covered_below (flash_rows t f.vdd) (hclk_range f a).least (hclk_of f c) p.hclk (hclk_within f a c fair is (wished 13 refl o)).above e,
+                          (
+                            refl,
+                            λ o e. wished_has f.hclk (hclk_reach f a) (hclk_of f c) p.hclk (reach_within f a c fair is) e,
+                            (
+                              refl,
+                              λ o e. wished_has f.pclk1 (pclk1_range f a) (pclk1_of f c) p.pclk1 (pclk1_within f a c fair is (wished 15 refl o)) e,
+                              (
+                                refl,
+                                λ o e. wished_has f.pclk2 (pclk2_range f a) (pclk2_of f c) p.pclk2 (pclk2_within f a c fair is (wished 16 refl o)) e,
+                                tt,
+                              ),
+                            ),
+                          ),
+                        ),
+                      ),
+                    ),
+                  ),
+                ),
+              ),
+            ),
+          ),
+        ),
+      ),
+    )
 
 fails : (m r : Bool) → (m ≡ true → r ≡ true) → not r ≡ true → m ≡ false
 fails true true f e = absurd (cc)
@@ -174,10 +215,10 @@ wish_met t f c e = e
 pub shown_is_broken : ShownIsBroken
 shown_is_broken t f values b k in_range is_box shown c is met =
     fails (meets_limit t f c k) (is_met k (limits_over t f (allowed values b)))
-      (met_along (λ j. true) (limits_of t f c) (limits_over t f (allowed values b)) k
-        (along (λ j. true) t f (allowed values b) c (box_is_fair values b is_box in_range) is (λ j o. inr (wish_met t f c met)))
-        refl)
-      shown
+    (met_along (λ j. true) (limits_of t f c) (limits_over t f (allowed values b)) k
+    (along (λ j. true) t f (allowed values b) c (box_is_fair values b is_box in_range) is (λ j o. inr (wish_met t f c met)))
+    refl)
+    shown
 
 no_wish : (f : Facts) (x : Fraction) → f.hclk ≡ None → is_as_wished f.hclk x ≡ true
 no_wish f x e = subst (λ (w : Option ℕ). is_as_wished w x ≡ true) (sym e) refl
@@ -187,8 +228,8 @@ shown_alone_is_broken t f values b k in_range is_box shown why c is =
     let fair = box_is_fair values b is_box in_range in
     let a = allowed values b in
     fails (meets_limit t f c k) (is_met k (limits_over t f a))
-      (⊎_elim
-        (λ alone. met_along stands_alone (limits_of t f c) (limits_over t f a) k (along stands_alone t f a c fair is (λ j o. inl o)) alone)
-        (λ none. met_along (λ j. true) (limits_of t f c) (limits_over t f a) k (along (λ j. true) t f a c fair is (λ j o. inr (no_wish f (hclk_of f c) none))) refl)
-        why)
-      shown
+    (⊎_elim
+    (λ alone. met_along stands_alone (limits_of t f c) (limits_over t f a) k (along stands_alone t f a c fair is (λ j o. inl o)) alone)
+    (λ none. met_along (λ j. true) (limits_of t f c) (limits_over t f a) k (along (λ j. true) t f a c fair is (λ j o. inr (no_wish f (hclk_of f c) none))) refl)
+    why)
+    shown

@@ -1,7 +1,6 @@
 -- On a box with one choice, what is shown is what the choice breaks.
-use Rattle.std.proofs.Common.{◌≡◌, ℕ, zero, suc, ◌+◌, ◌-◌, ◌*◌, ◌<◌, ◌≤◌, Bool, true, false, ◌&&◌, ◌||◌, cond, nat_eq, Option, Some, None, List, [], ◌∷◌, length, drop, get_or, length-take, length-drop, refl, sym, subst, ap, ◌∙◌, arith}
-use Rattle.std.specs.List.{list_any, list_all}
-
+use Rattle.std.proofs.Common.{◌≡◌, ℕ, ◌+◌, ◌-◌, ◌*◌, ◌<◌, Bool, true, false, ◌||◌, cond, nat_eq, Option, Some, None, List, [], ◌∷◌, length, drop, get_or, length-take, length-drop, refl, sym, subst, ap, ◌∙◌, arith}
+use Rattle.std.specs.List.{list_any}
 use Rattle.res_base.specs.Fraction.{Fraction, IsAtMost, at_most, whole, over}
 use Rattle.res_base.specs.Lists.{Member}
 use Rattle.res_base.proofs.ListLemmas.{member_one}
@@ -16,9 +15,9 @@ use Rattle.res_model.specs.declared.table.TableParts.{TableParts}
 use Rattle.res_model.specs.Clock.{output, is_hse, is_pll, pll_used, hse_used, pll_input, vco_in_of, vco_of, system_output_of, clk48_of, sysclk_of, hclk_of, pclk1_of, pclk2_of}
 use Rattle.res_model.specs.Limits.{where_so, are_within, is_equal, is_as_wished, is_fed, mhz_48, limits_of, first_broken}
 use Rattle.res_model.specs.Power.{flash_rows, is_covered_by, is_covered, scale_limit, is_within_max}
-use Rattle.res_model.specs.Ranges.{AreInRange, IsClockBox, IsOnePlace, IsRun, Allowed, allowed, IsAllowed, IsIn, code_of, run_of, values_at, exactly, divided, multiplied, output_range, sure_pll, sure_hse, overlaps, has, has_wish, narrowed, input_range, vco_in_range, vco_range, system_output_range, clk48_range, sysclk_range, hclk_reach, hclk_range, pclk1_range, pclk2_range, limits_over}
+use Rattle.res_model.specs.Ranges.{IsClockBox, IsOnePlace, IsRun, Allowed, allowed, IsIn, code_of, run_of, values_at, exactly, divided, multiplied, output_range, sure_pll, sure_hse, overlaps, has, has_wish, narrowed, input_range, vco_in_range, vco_range, system_output_range, clk48_range, sysclk_range, hclk_reach, hclk_range, pclk1_range, pclk2_range, limits_over}
 use Rattle.std.proofs.lemmas.Nat.{mul-le}
-use Rattle.clock_limits.specs.Fair.{IsFair, IsSpread}
+use Rattle.clock_limits.specs.Fair.{IsSpread}
 use Rattle.clock_limits.proofs.SpreadLemmas.{least_each}
 use Rattle.clock_limits.specs.Laws.{OneChoiceIsExact}
 use Rattle.clock_limits.proofs.FairLemmas.{box_is_fair}
@@ -28,17 +27,17 @@ use Rattle.clock_limits.proofs.RangeLemmas.{ArePositive, nodes_positive}
 -- ---- the values of one choice
 abbrev values_of : ClockChoice → Allowed
 values_of c = record {
-    src = code_of c.src ∷ [];
-    psrc = code_of c.psrc ∷ [];
-    hpre = c.hpre ∷ [];
-    p = c.p ∷ [];
-    m = c.m ∷ [];
-    n = c.n ∷ [];
-    q = c.q ∷ [];
-    ppre1 = c.ppre1 ∷ [];
-    ppre2 = c.ppre2 ∷ [];
-    vos = c.vos ∷ []
-  }
+  src = code_of c.src ∷ [];
+  psrc = code_of c.psrc ∷ [];
+  hpre = c.hpre ∷ [];
+  p = c.p ∷ [];
+  m = c.m ∷ [];
+  n = c.n ∷ [];
+  q = c.q ∷ [];
+  ppre1 = c.ppre1 ∷ [];
+  ppre2 = c.ppre2 ∷ [];
+  vos = c.vos ∷ [];
+}
 
 one_value : (v : ℕ) (vs : List ℕ) → length vs ≡ 1 → Member v vs → vs ≡ v ∷ []
 one_value v [] long among = absurd among
@@ -58,17 +57,17 @@ allowed_one : (values : List (List ℕ)) (b : ClockBox) (c : ClockChoice) → Is
 allowed_one values b c is one among =
     let run : (k : ℕ) → k < 10 → length (run_of values b k) ≡ 1 = λ k below. run_long values b k (is.runs k below) (one k below) in
     same_values (run_of values b 0) (run_of values b 1) (run_of values b 2) (run_of values b 3) (run_of values b 4) (run_of values b 5) (run_of values b 6) (run_of values b 7) (run_of values b 8) (run_of values b 9)
-      (code_of c.src ∷ []) (code_of c.psrc ∷ []) (c.hpre ∷ []) (c.p ∷ []) (c.m ∷ []) (c.n ∷ []) (c.q ∷ []) (c.ppre1 ∷ []) (c.ppre2 ∷ []) (c.vos ∷ [])
-      (one_value (code_of c.src) (run_of values b 0) (run 0 (omega arith)) among.src)
-      (one_value (code_of c.psrc) (run_of values b 1) (run 1 (omega arith)) among.psrc)
-      (one_value c.hpre (run_of values b 2) (run 2 (omega arith)) among.hpre)
-      (one_value c.p (run_of values b 3) (run 3 (omega arith)) among.p)
-      (one_value c.m (run_of values b 4) (run 4 (omega arith)) among.m)
-      (one_value c.n (run_of values b 5) (run 5 (omega arith)) among.n)
-      (one_value c.q (run_of values b 6) (run 6 (omega arith)) among.q)
-      (one_value c.ppre1 (run_of values b 7) (run 7 (omega arith)) among.ppre1)
-      (one_value c.ppre2 (run_of values b 8) (run 8 (omega arith)) among.ppre2)
-      (one_value c.vos (run_of values b 9) (run 9 (omega arith)) among.vos)
+    (code_of c.src ∷ []) (code_of c.psrc ∷ []) (c.hpre ∷ []) (c.p ∷ []) (c.m ∷ []) (c.n ∷ []) (c.q ∷ []) (c.ppre1 ∷ []) (c.ppre2 ∷ []) (c.vos ∷ [])
+    (one_value (code_of c.src) (run_of values b 0) (run 0 (omega arith)) among.src)
+    (one_value (code_of c.psrc) (run_of values b 1) (run 1 (omega arith)) among.psrc)
+    (one_value c.hpre (run_of values b 2) (run 2 (omega arith)) among.hpre)
+    (one_value c.p (run_of values b 3) (run 3 (omega arith)) among.p)
+    (one_value c.m (run_of values b 4) (run 4 (omega arith)) among.m)
+    (one_value c.n (run_of values b 5) (run 5 (omega arith)) among.n)
+    (one_value c.q (run_of values b 6) (run 6 (omega arith)) among.q)
+    (one_value c.ppre1 (run_of values b 7) (run 7 (omega arith)) among.ppre1)
+    (one_value c.ppre2 (run_of values b 8) (run 8 (omega arith)) among.ppre2)
+    (one_value c.vos (run_of values b 9) (run 9 (omega arith)) among.vos)
   where
     same_values : (a b c d e f g h i j a' b' c' d' e' f' g' h' i' j' : List ℕ) → a ≡ a' → b ≡ b' → c ≡ c' → d ≡ d' → e ≡ e' → f ≡ f' → g ≡ g' → h ≡ h' → i ≡ i' → j ≡ j' → ◌≡◌ {A = Allowed} (record { src = a; psrc = b; hpre = c; p = d; m = e; n = f; q = g; ppre1 = h; ppre2 = i; vos = j }) (record { src = a'; psrc = b'; hpre = c'; p = d'; m = e'; n = f'; q = g'; ppre1 = h'; ppre2 = i'; vos = j' })
     same_values a b c d e f g h i j a' b' c' d' e' f' g' h' i' j' p q r s t u v w x y = cc
@@ -124,13 +123,13 @@ narrowed_same (Some wish) x p = narrowed_one wish x (has (exactly x) (whole wish
 
 divided_same : (r : Range) (x : Fraction) (n : ℕ) → 0 < (over r.least n).den → 0 < (over r.most n).den → IsSame r x → IsSame (divided r (n ∷ [])) (over x n)
 divided_same r x n p q s = record {
-    least_below = over_mono r.least x n n s.least_below (omega arith);
-    least_above = over_mono x r.least n n s.least_above (omega arith);
-    most_below = over_mono r.most x n n s.most_below (omega arith);
-    most_above = over_mono x r.most n n s.most_above (omega arith);
-    least_some = p;
-    most_some = q
-  }
+  least_below = over_mono r.least x n n s.least_below (omega arith);
+  least_above = over_mono x r.least n n s.least_above (omega arith);
+  most_below = over_mono r.most x n n s.most_below (omega arith);
+  most_above = over_mono x r.most n n s.most_above (omega arith);
+  least_some = p;
+  most_some = q;
+}
 
 -- ---- tests at the same number
 least_test : (r : Range) (x y : Fraction) → 0 < x.den → IsSame r x → at_most r.least y ≡ at_most x y
@@ -183,48 +182,48 @@ limits_one t f c p d1 d2 =
     let same1 = divided_same (hclk_range f a) (hclk_of f c) c.ppre1 (product_some (hclk_range f a).least.den c.ppre1 same.least_some d1) (product_some (hclk_range f a).most.den c.ppre1 same.most_some d1) same in
     let same2 = divided_same (hclk_range f a) (hclk_of f c) c.ppre2 (product_some (hclk_range f a).least.den c.ppre2 same.least_some d2) (product_some (hclk_range f a).most.den c.ppre2 same.most_some d2) same in
     same_limits
-      (where_so (sure_hse f a) (is_fed t f))
-      (where_so (sure_pll f a) (overlaps t.limits.vco_in (vco_in_range f a)))
-      (where_so (sure_pll f a) (overlaps t.limits.vco (vco_range f a)))
-      (at_most (sysclk_range f a).least (whole t.limits.sysclk))
-      (is_within_max (hclk_range f a).least (scale_limit t c.vos) || false)
-      (at_most (pclk1_range f a).least (whole t.limits.pclk1))
-      (at_most (pclk2_range f a).least (whole t.limits.pclk2))
-      (where_so f.exact48 (has (clk48_range f a) (whole mhz_48)))
-      (where_so f.most48 (at_most (clk48_range f a).least (whole mhz_48)))
-      (at_most (whole f.floor) (hclk_range f a).most)
-      (is_covered t f.vdd (hclk_range f a).least)
-      (has_wish f.hclk (hclk_reach f a))
-      (has_wish f.pclk1 (pclk1_range f a))
-      (has_wish f.pclk2 (pclk2_range f a))
-      (where_so (hse_used f c) (is_fed t f))
-      (where_so (pll_used f c) (are_within t.limits.vco_in (vco_in_of f c)))
-      (where_so (pll_used f c) (are_within t.limits.vco (vco_of f c)))
-      (at_most (sysclk_of f c) (whole t.limits.sysclk))
-      (is_within_max (hclk_of f c) (scale_limit t c.vos))
-      (at_most (pclk1_of f c) (whole t.limits.pclk1))
-      (at_most (pclk2_of f c) (whole t.limits.pclk2))
-      (where_so f.exact48 (is_equal (clk48_of f c) (whole mhz_48)))
-      (where_so f.most48 (at_most (clk48_of f c) (whole mhz_48)))
-      (at_most (whole f.floor) (hclk_of f c))
-      (is_covered t f.vdd (hclk_of f c))
-      (is_as_wished f.hclk (hclk_of f c))
-      (is_as_wished f.pclk1 (pclk1_of f c))
-      (is_as_wished f.pclk2 (pclk2_of f c))
-      (ap (λ (u : Bool). where_so u (is_fed t f)) (sure_hse_one f c))
-      (ap (λ (u : Bool). where_so u (overlaps t.limits.vco_in (vco_in_range f a))) (sure_pll_one f c) ∙ ap (λ (r : Range). where_so (pll_used f c) (overlaps t.limits.vco_in r)) (vco_in_one f c))
-      (ap (λ (u : Bool). where_so u (overlaps t.limits.vco (vco_range f a))) (sure_pll_one f c) ∙ ap (λ (r : Range). where_so (pll_used f c) (overlaps t.limits.vco r)) (vco_one f c))
-      (ap (λ (r : Range). at_most r.least (whole t.limits.sysclk)) (sysclk_one f c))
-      (or_false (is_within_max (hclk_range f a).least (scale_limit t c.vos)) ∙ max_test (scale_limit t c.vos) (hclk_range f a) (hclk_of f c) p.hclk same)
-      (least_test (pclk1_range f a) (pclk1_of f c) (whole t.limits.pclk1) p.pclk1 same1)
-      (least_test (pclk2_range f a) (pclk2_of f c) (whole t.limits.pclk2) p.pclk2 same2)
-      (ap (λ (r : Range). where_so f.exact48 (has r (whole mhz_48))) (clk48_one f c))
-      (ap (λ (r : Range). where_so f.most48 (at_most r.least (whole mhz_48))) (clk48_one f c))
-      (most_test (hclk_range f a) (hclk_of f c) (whole f.floor) p.hclk same)
-      (rows_test (flash_rows t f.vdd) (hclk_range f a) (hclk_of f c) p.hclk same)
-      (ap (λ (r : Range). has_wish f.hclk r) (reach_one f c) ∙ wish_test f.hclk (exactly (hclk_of f c)) (hclk_of f c) p.hclk (narrowed_same None (hclk_of f c) p.hclk))
-      (wish_test f.pclk1 (pclk1_range f a) (pclk1_of f c) p.pclk1 same1)
-      (wish_test f.pclk2 (pclk2_range f a) (pclk2_of f c) p.pclk2 same2)
+    (where_so (sure_hse f a) (is_fed t f))
+    (where_so (sure_pll f a) (overlaps t.limits.vco_in (vco_in_range f a)))
+    (where_so (sure_pll f a) (overlaps t.limits.vco (vco_range f a)))
+    (at_most (sysclk_range f a).least (whole t.limits.sysclk))
+    (is_within_max (hclk_range f a).least (scale_limit t c.vos) || false)
+    (at_most (pclk1_range f a).least (whole t.limits.pclk1))
+    (at_most (pclk2_range f a).least (whole t.limits.pclk2))
+    (where_so f.exact48 (has (clk48_range f a) (whole mhz_48)))
+    (where_so f.most48 (at_most (clk48_range f a).least (whole mhz_48)))
+    (at_most (whole f.floor) (hclk_range f a).most)
+    (is_covered t f.vdd (hclk_range f a).least)
+    (has_wish f.hclk (hclk_reach f a))
+    (has_wish f.pclk1 (pclk1_range f a))
+    (has_wish f.pclk2 (pclk2_range f a))
+    (where_so (hse_used f c) (is_fed t f))
+    (where_so (pll_used f c) (are_within t.limits.vco_in (vco_in_of f c)))
+    (where_so (pll_used f c) (are_within t.limits.vco (vco_of f c)))
+    (at_most (sysclk_of f c) (whole t.limits.sysclk))
+    (is_within_max (hclk_of f c) (scale_limit t c.vos))
+    (at_most (pclk1_of f c) (whole t.limits.pclk1))
+    (at_most (pclk2_of f c) (whole t.limits.pclk2))
+    (where_so f.exact48 (is_equal (clk48_of f c) (whole mhz_48)))
+    (where_so f.most48 (at_most (clk48_of f c) (whole mhz_48)))
+    (at_most (whole f.floor) (hclk_of f c))
+    (is_covered t f.vdd (hclk_of f c))
+    (is_as_wished f.hclk (hclk_of f c))
+    (is_as_wished f.pclk1 (pclk1_of f c))
+    (is_as_wished f.pclk2 (pclk2_of f c))
+    (ap (λ (u : Bool). where_so u (is_fed t f)) (sure_hse_one f c))
+    (ap (λ (u : Bool). where_so u (overlaps t.limits.vco_in (vco_in_range f a))) (sure_pll_one f c) ∙ ap (λ (r : Range). where_so (pll_used f c) (overlaps t.limits.vco_in r)) (vco_in_one f c))
+    (ap (λ (u : Bool). where_so u (overlaps t.limits.vco (vco_range f a))) (sure_pll_one f c) ∙ ap (λ (r : Range). where_so (pll_used f c) (overlaps t.limits.vco r)) (vco_one f c))
+    (ap (λ (r : Range). at_most r.least (whole t.limits.sysclk)) (sysclk_one f c))
+    (or_false (is_within_max (hclk_range f a).least (scale_limit t c.vos)) ∙ max_test (scale_limit t c.vos) (hclk_range f a) (hclk_of f c) p.hclk same)
+    (least_test (pclk1_range f a) (pclk1_of f c) (whole t.limits.pclk1) p.pclk1 same1)
+    (least_test (pclk2_range f a) (pclk2_of f c) (whole t.limits.pclk2) p.pclk2 same2)
+    (ap (λ (r : Range). where_so f.exact48 (has r (whole mhz_48))) (clk48_one f c))
+    (ap (λ (r : Range). where_so f.most48 (at_most r.least (whole mhz_48))) (clk48_one f c))
+    (most_test (hclk_range f a) (hclk_of f c) (whole f.floor) p.hclk same)
+    (rows_test (flash_rows t f.vdd) (hclk_range f a) (hclk_of f c) p.hclk same)
+    (ap (λ (r : Range). has_wish f.hclk r) (reach_one f c) ∙ wish_test f.hclk (exactly (hclk_of f c)) (hclk_of f c) p.hclk (narrowed_same None (hclk_of f c) p.hclk))
+    (wish_test f.pclk1 (pclk1_range f a) (pclk1_of f c) p.pclk1 same1)
+    (wish_test f.pclk2 (pclk2_range f a) (pclk2_of f c) p.pclk2 same2)
 
 pub one_choice_is_exact : OneChoiceIsExact
 one_choice_is_exact t f values b in_range is_box one c is =

@@ -1,5 +1,5 @@
 -- The sizes of ranges.
-use Rattle.std.proofs.Common.{◌≡◌, ℕ, ◌+◌, ◌*◌, ◌^◌, ◌<◌, ◌≤◌, Bool, true, false, cond, nat_eq, List, [], ◌∷◌, length, refl, sym, subst, arith}
+use Rattle.std.proofs.Common.{◌≡◌, ℕ, ◌*◌, ◌^◌, ◌<◌, ◌≤◌, Bool, true, false, cond, nat_eq, List, [], ◌∷◌, sym, subst, arith}
 use Rattle.res_base.specs.Fraction.{Fraction, at_most, whole}
 use Rattle.res_model.specs.declared.clock.Range.{Range}
 use Rattle.res_model.specs.Ranges.{exactly, joined, output_range, with_outputs, outputs}

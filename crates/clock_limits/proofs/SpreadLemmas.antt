@@ -1,5 +1,5 @@
 -- The least and the greatest of values.
-use Rattle.std.proofs.Common.{◌≡◌, ℕ, zero, suc, ◌+◌, ◌-◌, ◌<◌, ◌≤◌, min, max, List, [], ◌∷◌, length, map, take, drop, get_or, ◌⊎◌, inl, inr, ⊎_elim, refl, sym, subst, arith}
+use Rattle.std.proofs.Common.{◌≡◌, ℕ, zero, suc, ◌<◌, ◌≤◌, min, max, List, [], ◌∷◌, length, map, take, drop, get_or, ◌⊎◌, ⊎_elim, refl, subst, arith}
 use Rattle.res_base.specs.Lists.{Each, Member}
 use Rattle.res_model.specs.Clock.{IsBetween}
 use Rattle.res_model.specs.Ranges.{least_from, least_of, greatest_from, greatest_of}

@@ -54,18 +54,17 @@ fn some_scale(t: &TableParts, hclk: &Ratio, scales: &[u16]) -> bool
 }
 
 /// Whether the ranges leave room for each limit, from 3 to 16.
-fn room_by(t: &Tables, f: &Facts, r: &Runs, x: &Ranges) -> [bool; 14]
+fn room_by(t: &TableParts, f: &Facts, r: &Runs, x: &Ranges) -> [bool; 14]
     ensures { numbered 3 result ≡ room_by t.now f.now (seen r.now) x.now }
 {
-    let parts = t.parts();
-    let limits = parts.limits;
+    let limits = t.limits;
     let pll = sure_pll(f, r);
     [
-        where_so(sure_hse(f, r), is_fed(parts, f)),
+        where_so(sure_hse(f, r), is_fed(t, f)),
         where_so(pll, overlaps(limits.vco_in, &x.vco_in)),
         where_so(pll, overlaps(limits.vco, &x.vco)),
         x.sysclk.least.at_most_whole(limits.sysclk),
-        some_scale(parts, &x.hclk.least, r.vos),
+        some_scale(t, &x.hclk.least, r.vos),
         x.pclk1.least.at_most_whole(limits.pclk1),
         x.pclk2.least.at_most_whole(limits.pclk2),
         where_so(f.exact48, has(&x.clk48, MHZ_48)),
@@ -79,7 +78,7 @@ fn room_by(t: &Tables, f: &Facts, r: &Runs, x: &Ranges) -> [bool; 14]
 }
 
 /// Whether the values leave room for each limit, from 3 to 16.
-fn room_in(t: &Tables, f: &Facts, r: &Runs) -> [bool; 14]
+fn room_in(t: &TableParts, f: &Facts, r: &Runs) -> [bool; 14]
     requires facts { AreFacts f.now }
     requires fair { IsFair (seen r.now) }
     ensures { numbered 3 result ≡ limits_over t.now f.now (seen r.now) }
@@ -97,5 +96,5 @@ pub fn range_broken(t: &Tables, f: &Facts, values: &[Vec<u16>], b: &ClockBox) ->
     requires is_box { IsClockBox (map (λ v. v.items) values.now) b.now }
     ensures { result ≡ shown_limit t.now f.now (map (λ v. v.items) values.now) b.now }
 {
-    first_broken(&room_in(t, f, &Runs::of(values, b)))
+    first_broken(&room_in(t.parts(), f, &Runs::of(values, b)))
 }

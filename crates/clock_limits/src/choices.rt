@@ -10,7 +10,7 @@ use crate::numbers::{
 use clock_tree::{hse_used, nodes};
 use power_flash::{is_covered, is_within_scale};
 use res_base::Ratio;
-use res_model::{ClockChoice, Facts, Tables};
+use res_model::{ClockChoice, Facts, TableParts, Tables};
 
 /// Whether a node of the PLL is within bounds, where it is there.
 fn within_where_there(bounds: (u64, u64), x: &Option<Ratio>) -> bool
@@ -41,20 +41,19 @@ fn most_where_there(x: &Option<Ratio>) -> bool
 }
 
 /// Whether the choice meets each limit, from 3 to 16.
-fn met_by(t: &Tables, f: &Facts, c: &ClockChoice) -> [bool; 14]
+fn met_by(t: &TableParts, f: &Facts, c: &ClockChoice) -> [bool; 14]
     requires choice { IsInRange c.now }
     requires facts { AreFacts f.now }
     ensures { numbered 3 result ≡ limits_of t.now f.now c.now }
 {
-    let parts = t.parts();
     let n = nodes(f, c);
-    let limits = parts.limits;
+    let limits = t.limits;
     [
-        where_so(hse_used(f, c), is_fed(parts, f)),
+        where_so(hse_used(f, c), is_fed(t, f)),
         within_where_there(limits.vco_in, &n.vco_in),
         within_where_there(limits.vco, &n.vco),
         n.sysclk.at_most_whole(limits.sysclk),
-        is_within_scale(parts, &n.hclk, u16::from(c.vos)),
+        is_within_scale(t, &n.hclk, u16::from(c.vos)),
         n.pclk1.at_most_whole(limits.pclk1),
         n.pclk2.at_most_whole(limits.pclk2),
         where_so(f.exact48, exactly_where_there(&n.clk48)),
@@ -73,5 +72,8 @@ pub fn broken(t: &Tables, f: &Facts, c: &ClockChoice) -> Option<u8>
     requires facts { AreFacts f.now }
     ensures { result ≡ broken_limit t.now f.now c.now }
 {
-    first_broken(&met_by(t, f, c))
+    first_broken(&met_by(t.parts(), f, c))
 }
+
+#[cfg(test)]
+mod tests;

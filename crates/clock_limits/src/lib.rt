@@ -10,5 +10,8 @@ mod runs;
 
 pub use boxes::range_broken;
 pub use choices::broken;
-pub use laws::{broken_is_least, one_choice_is_exact, shown_alone_is_broken, shown_is_broken, shown_is_least, tests_are_right};
+pub use laws::{
+    broken_is_least, one_choice_is_exact, shown_alone_is_broken, shown_is_broken, shown_is_least,
+    tests_are_right,
+};
 pub use res_model::{ClockBox, ClockChoice, Facts};

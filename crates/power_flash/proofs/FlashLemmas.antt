@@ -1,12 +1,12 @@
 -- Laws of flash rows.
-use Rattle.std.proofs.Common.{◌≡◌, ℕ, zero, suc, ◌+◌, ◌*◌, ◌<◌, ◌≤◌, Bool, true, false, ◌||◌, cond, Option, Some, None, List, [], ◌∷◌, length, find, get_or, leb, ◌-◌, is_some, IfSome, IfNone, ◌⊎◌, inl, inr, refl, sym, ap, ◌∙◌, arith}
-use Rattle.std.specs.List.{list_any, position_from}
+use Rattle.std.proofs.Common.{◌≡◌, ℕ, zero, suc, ◌+◌, ◌*◌, ◌<◌, ◌≤◌, Bool, true, false, cond, Option, Some, None, List, [], ◌∷◌, length, find, get_or, leb, IfSome, IfNone, inl, inr, refl, sym, arith}
+use Rattle.std.specs.List.{position_from}
 use Rattle.std.proofs.lemmas.Bool.Decides.{leb_tells}
 use Rattle.res_base.specs.Fraction.{Fraction, IsAtMost, whole}
 use Rattle.res_base.specs.Lists.{Each}
 use Rattle.res_model.specs.declared.table.FlashRange.{FlashRange}
 use Rattle.res_model.specs.declared.table.TableParts.{TableParts}
-use Rattle.res_model.specs.Power.{has_supply, range_at, rows_of_range, flash_rows, RowCovers, is_covered_by, is_covered, wait_of}
+use Rattle.res_model.specs.Power.{has_supply, range_at, rows_of_range, flash_rows, is_covered_by}
 use Rattle.res_model.specs.Valid.{IsFlashRange, IsValid}
 
 found_few : (p : FlashRange → Bool) (rs : List FlashRange) → Each IsFlashRange rs → length (rows_of_range (find p rs)) ≤ 8
@@ -102,12 +102,3 @@ none_at rows hclk None e = λ v covers.
     let fails : leb (hclk.num * 1) (row * hclk.den) ≡ false = none_found (is_covered_by hclk) rows 0 (sym e) v covers.0 in
     let passes = test_of (hclk.num * 1) (row * hclk.den) covers.1 in
     absurd (cc)
-
-some_where_any : (p : ℕ → Bool) (rows : List ℕ) (i : ℕ) → is_some (position_from p i rows) ≡ list_any p rows
-some_where_any p [] i = refl
-some_where_any p (x ∷ xs) i =
-    elim (p x) as (λ b. is_some (cond b (Some i) (position_from p (i + 1) xs)) ≡ (b || list_any p xs)) [ true ↦ refl | false ↦ some_where_any p xs (i + 1) ]
-
--- wait states are found where a row covers
-pub covered_where_found : (t : TableParts) (vdd : ℕ) (hclk : Fraction) → is_some (wait_of t vdd hclk) ≡ is_covered t vdd hclk
-covered_where_found t vdd hclk = some_where_any (is_covered_by hclk) (flash_rows t vdd) 0

@@ -1,4 +1,4 @@
-use Rattle.std.proofs.Common.{◌≡◌, ℕ, List, [], Vec, Global, map, get_or, refl, ap, sym, ◌∙◌, ◌<◌, length, arith}
+use Rattle.std.proofs.Common.{◌≡◌, ℕ, [], Vec, Global, map, get_or, refl, ap, sym, ◌∙◌, ◌<◌, length, arith}
 use Rattle.res_model.specs.Ranges.{run_of}
 use Rattle.clock_limits.proofs.SpreadLemmas.{map_at}
 use Rattle.clock_limits.proofs.runs.run.Goals as goal

@@ -4,4 +4,4 @@ use Rattle.res_model.specs.Power.{has_supply}
 use Rattle.power_flash.proofs.flash.range_at.Given as goal
 
 abbrev pub invariant-loop-range : goal.invariant-loop-range
-invariant-loop-range l = find (has_supply l.fn.vdd) l.range-items ≡ find (has_supply l.fn.vdd) (drop l.range-index l.range-items)
+invariant-loop-range l = find (has_supply l.fn.vdd) l.flash ≡ find (has_supply l.fn.vdd) (drop l.range-index l.flash)
