@@ -8,14 +8,12 @@ use Rattle.res_base.specs.Fraction.{Fraction, IsAtMost, at_most, whole, over}
 use Rattle.res_model.specs.Clock.{vco_in_of, vco_of, where_used}
 use Rattle.res_model.specs.Limits.{AreWithin, are_within, IsWithinMax}
 use Rattle.res_model.specs.Power.{is_within_max}
-use Rattle.res_model.specs.declared.clock.Facts.{Facts}
-use Rattle.res_model.specs.declared.clock.ClockChoice.{ClockChoice}
 use Rattle.res_model.specs.declared.table.Mode.{Mode}
 use Rattle.res_model.specs.declared.table.Mode.TheVariants as mode
 use Rattle.res_model.specs.declared.table.TableParts.{TableParts}
-use Rattle.reg_machine.specs.Pins.{mode_field, af_field, is_debug, is_function, is_chosen, is_pin_legal, is_place_legal, are_legal_below, IsFunction, IsChosen, IsPinLegal, ArePinsLegal}
+use Rattle.reg_machine.specs.Pins.{mode_field, af_field, is_debug, is_function, is_chosen, is_pin_legal, is_place_legal, are_legal_below, IsFunction, IsChosen, IsPinLegal}
 use Rattle.reg_machine.specs.Tree.{choice_of}
-use Rattle.reg_machine.specs.Legal.{NodesFit, nodes_fit, IsChoiceLegal, is_choice_legal, are_within_some, is_vco_legal, IsLegal, is_legal}
+use Rattle.reg_machine.specs.Legal.{NodesFit, nodes_fit, is_choice_legal, are_within_some, is_vco_legal, IsLegal, is_legal}
 use Rattle.reg_machine.specs.declared.state.State.{State}
 use Rattle.reg_machine.specs.declared.state.Target.{Target}
 use Rattle.reg_machine.proofs.TreeLemmas.{and_left, and_right, both, leb_true}
@@ -66,22 +64,30 @@ pin_says o p m af = (λ e. to_fact e, λ h. to_test h)
   where
     rest : Bool
     rest = is_chosen o af || (is_debug p && eqb af 0)
+
     at_two : m ≡ 2 → (not (eqb m 2) || rest) ≡ true → rest ≡ true
     at_two e h = subst (λ b. (not b || rest) ≡ true) (eq-eqb m 2 e) h
+
     to_sum : rest ≡ true → IsChosen o af ⊎ ((is_debug p ≡ true) × (af ≡ 0))
     to_sum h = elim (or_cases (is_chosen o af) (is_debug p && eqb af 0) h) [
-        inl y ↦ inl ((chosen_says o af).0 y)
-      | inr n ↦ inr (and_left (is_debug p) (eqb af 0) n, eqb-true af 0 (and_right (is_debug p) (eqb af 0) n)) ]
+      | inl y ↦ inl ((chosen_says o af).0 y)
+      | inr n ↦ inr (and_left (is_debug p) (eqb af 0) n, eqb-true af 0 (and_right (is_debug p) (eqb af 0) n))
+    ]
+
     to_fact : (not (eqb m 2) || rest) ≡ true → IsPinLegal o p m af
     to_fact e two = to_sum (at_two two e)
+
     from_sum : IsChosen o af ⊎ ((is_debug p ≡ true) × (af ≡ 0)) → rest ≡ true
     from_sum h = elim h [
-        inl y ↦ or_left (is_chosen o af) (is_debug p && eqb af 0) ((chosen_says o af).1 y)
-      | inr n ↦ or_right (is_chosen o af) (is_debug p && eqb af 0) (both (is_debug p) (eqb af 0) n.0 (eq-eqb af 0 n.1)) ]
+      | inl y ↦ or_left (is_chosen o af) (is_debug p && eqb af 0) ((chosen_says o af).1 y)
+      | inr n ↦ or_right (is_chosen o af) (is_debug p && eqb af 0) (both (is_debug p) (eqb af 0) n.0 (eq-eqb af 0 n.1))
+    ]
+
     to_test : IsPinLegal o p m af → (not (eqb m 2) || rest) ≡ true
     to_test h = elim (eqb_tells m 2) [
-        inl y ↦ or_right (not (eqb m 2)) rest (from_sum (h y.1))
-      | inr n ↦ or_left (not (eqb m 2)) rest (ap not n.0) ]
+      | inl y ↦ or_right (not (eqb m 2)) rest (from_sum (h y.1))
+      | inr n ↦ or_left (not (eqb m 2)) rest (ap not n.0)
+    ]
 
 pub record BelowAreLegal (n : ℕ) (wanted : List (Option Mode)) (g : List ℕ) : Type 0 where
   pub pin : (p : ℕ) → p < n → IsPinLegal (get_or wanted p None) p (mode_field p g) (af_field p g)
@@ -94,8 +100,9 @@ below_fact (suc n) wanted g e =
     let last = (pin_says (get_or wanted n None) n (mode_field n g) (af_field n g)).0 (and_left (is_place_legal wanted g n) (are_legal_below n wanted g) e) in
     record {
       pin = λ p l. elim (cases_lt p n) [
-          inl y ↦ front.pin p y
-        | inr y ↦ let same : n ≡ p = omega arith in subst (λ q. IsPinLegal (get_or wanted q None) q (mode_field q g) (af_field q g)) same last ];
+        | inl y ↦ front.pin p y
+        | inr y ↦ let same : n ≡ p = omega arith in subst (λ q. IsPinLegal (get_or wanted q None) q (mode_field q g) (af_field q g)) same last
+      ];
     }
 
 -- a place more
@@ -112,8 +119,8 @@ unfolding are_legal_below
 below_test zero wanted g h = refl
 below_test (suc n) wanted g h =
     both (is_place_legal wanted g n) (are_legal_below n wanted g)
-      ((pin_says (get_or wanted n None) n (mode_field n g) (af_field n g)).1 (h.pin n (omega arith)))
-      (below_test n wanted g (record { pin = λ p l. h.pin p (omega arith) }))
+    ((pin_says (get_or wanted n None) n (mode_field n g) (af_field n g)).1 (h.pin n (omega arith)))
+    (below_test n wanted g (record { pin = λ p l. h.pin p (omega arith) }))
 
 -- ---- clocks
 
@@ -128,14 +135,19 @@ max_test (Some max) x h = test_of x (whole max) h
 module _ (t : TableParts) (scale : Option ℕ) (rows : List ℕ) (wait : ℕ) (x : Fraction) (h a b : ℕ) where
   t1 : Bool
   t1 = at_most x (whole t.limits.sysclk)
+
   t2 : Bool
   t2 = is_within_max (over x h) scale
+
   t3 : Bool
   t3 = ltb wait (length rows)
+
   t4 : Bool
   t4 = at_most (over x h) (whole (get_or rows wait 0))
+
   t5 : Bool
   t5 = at_most (over (over x h) a) (whole t.limits.pclk1)
+
   t6 : Bool
   t6 = at_most (over (over x h) b) (whole t.limits.pclk2)
 
@@ -159,9 +171,9 @@ module _ (t : TableParts) (scale : Option ℕ) (rows : List ℕ) (wait : ℕ) (x
   unfolding t1 t2 t3 t4 t5 t6
   nodes_test n =
       both t1 (t2 && ((t3 && t4) && (t5 && t6))) (test_of _ _ n.sysclk_within)
-        (both t2 ((t3 && t4) && (t5 && t6)) (max_test scale (over x h) n.scale_covers)
-          (both (t3 && t4) (t5 && t6) (both t3 t4 (ltb_of wait (length rows) n.row_is_there) (test_of _ _ n.row_covers))
-            (both t5 t6 (test_of _ _ n.pclk1_within) (test_of _ _ n.pclk2_within))))
+      (both t2 ((t3 && t4) && (t5 && t6)) (max_test scale (over x h) n.scale_covers)
+      (both (t3 && t4) (t5 && t6) (both t3 t4 (ltb_of wait (length rows) n.row_is_there) (test_of _ _ n.row_covers))
+      (both t5 t6 (test_of _ _ n.pclk1_within) (test_of _ _ n.pclk2_within))))
 
 within_fact : (bounds : ℕ × ℕ) (x : Fraction) → are_within bounds x ≡ true → AreWithin bounds x
 within_fact bounds x e = (fact_of (whole bounds.0) x (and_left (at_most (whole bounds.0) x) (at_most x (whole bounds.1)) e), fact_of x (whole bounds.1) (and_right (at_most (whole bounds.0) x) (at_most x (whole bounds.1)) e))
@@ -182,14 +194,19 @@ some_test bounds false x h = refl
 module _ (t : TableParts) (want : Target) (s : State) where
   l1 : Bool
   l1 = is_choice_legal t want.facts s.latency (choice_of s s.source)
+
   l2 : Bool
   l2 = is_choice_legal t want.facts s.latency (choice_of s (s.cfgr % 4))
+
   l3 : Bool
   l3 = is_vco_legal t want.facts (bit_of 24 s.cr) (choice_of s s.source)
+
   l4 : Bool
   l4 = are_legal_below 144 want.pins s.gpio
+
   v1 : Bool
   v1 = are_within_some t.limits.vco_in (where_used (bit_of 24 s.cr) (vco_in_of want.facts (choice_of s s.source)))
+
   v2 : Bool
   v2 = are_within_some t.limits.vco (where_used (bit_of 24 s.cr) (vco_of want.facts (choice_of s s.source)))
 
@@ -211,9 +228,9 @@ module _ (t : TableParts) (want : Target) (s : State) where
   unfolding l1 l2 l3 l4 v1 v2
   legal_test h =
       both l1 (l2 && (l3 && l4)) (nodes_test t _ _ _ _ _ _ _ h.in_effect)
-        (both l2 (l3 && l4) (nodes_test t _ _ _ _ _ _ _ h.asked)
-          (both l3 l4 (both v1 v2 (some_test t.limits.vco_in (bit_of 24 s.cr) _ h.vco_in) (some_test t.limits.vco (bit_of 24 s.cr) _ h.vco))
-            (below_test 144 want.pins s.gpio (record { pin = h.pins.pin }))))
+      (both l2 (l3 && l4) (nodes_test t _ _ _ _ _ _ _ h.asked)
+      (both l3 l4 (both v1 v2 (some_test t.limits.vco_in (bit_of 24 s.cr) _ h.vco_in) (some_test t.limits.vco (bit_of 24 s.cr) _ h.vco))
+      (below_test 144 want.pins s.gpio (record { pin = h.pins.pin }))))
 
   pub legal_says : IsTrue (is_legal t want s) ↔ IsLegal t want s
   legal_says = (λ e. legal_fact e, λ h. legal_test h)

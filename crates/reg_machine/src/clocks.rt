@@ -15,12 +15,19 @@ use res_base::Ratio;
 use res_model::{ClockChoice, Facts, Nodes, Src, Tables};
 
 const PLLM: Field = Field { low: 0, width: 6 };
+
 const PLLN: Field = Field { low: 6, width: 9 };
+
 const PLLP: Field = Field { low: 16, width: 2 };
+
 const PLLSRC: Field = Field { low: 22, width: 1 };
+
 const PLLQ: Field = Field { low: 24, width: 4 };
+
 const HPRE: Field = Field { low: 4, width: 4 };
+
 const PPRE1: Field = Field { low: 10, width: 3 };
+
 const PPRE2: Field = Field { low: 13, width: 3 };
 
 /// The nodes for the source in effect; those of the PLL are None where PLLON is 0.
@@ -52,10 +59,7 @@ fn all_nodes(f: &Facts, c: &ClockChoice) -> Nodes
     requires hse { f.now.hse_hz < 2 ^ 32 }
     ensures { result ≡ nodes_where true f.now c.now }
 {
-    let used = Facts {
-        need48: true,
-        ..*f
-    };
+    let used = Facts { need48: true, ..*f };
     nodes(&used, c)
 }
 
