@@ -1,4 +1,4 @@
--- Items 4 to 8, for any state of the oscillators that stays.
+-- The latency, the dividers, the switch and the pins, for any state of the oscillators that stays.
 use Rattle.std.proofs.Common.{◌≡◌, ℕ, ◌+◌, ◌*◌, ◌-◌, ◌/◌, ◌%◌, ◌^◌, ◌<◌, ◌≤◌, List, ◌∷◌, get_or, Bool, true, false, ◌&&◌, ◌||◌, cond, eqb, ltb, bit_and, bit_or, Option, None, inl, inr, refl, sym, subst, ap, ◌∙◌, arith}
 use Rattle.std.proofs.lemmas.Bool.{eq-eqb, eqb-true, cases_lt}
 use Rattle.std.proofs.lemmas.Bool.Decides.{nat_tests}

@@ -7,4 +7,5 @@ pub mod PartLemmas
 pub mod PinLemmas
 pub mod SectionLemmas
 pub mod SettingLemmas
+pub mod WantLemmas
 pub mod WritesLemmas

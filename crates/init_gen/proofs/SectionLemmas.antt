@@ -1,4 +1,4 @@
--- Items 7 and 8: the ports' clocks, and the pins.
+-- The enables of the ports, and the pins.
 use Rattle.std.proofs.Common.{◌≡◌, ℕ, suc, ◌+◌, ◌/◌, ◌%◌, ◌^◌, ◌<◌, ◌≤◌, List, [], ◌∷◌, length, get_or, Bool, true, false, cond, eqb, bit_or, Option, Some, None, refl, sym, ap, subst, ◌∙◌, arith}
 use Rattle.std.proofs.lemmas.Bool.{eq-eqb, eqb-true}
 use Rattle.std.proofs.lemmas.Nat.{or_lt, or_block, or_shifted, le_or_l, pow_pos, pow_below}

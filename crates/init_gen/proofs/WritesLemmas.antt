@@ -1,4 +1,4 @@
--- Items 1 to 3 in front of the rest, for each use of HSE and of the PLL; and the whole list.
+-- Scale 2, the HSE and the PLL in front of the rest, for each use of them; and the whole list.
 use Rattle.std.proofs.Common.{◌≡◌, ℕ, ◌+◌, ◌*◌, ◌/◌, ◌%◌, ◌^◌, ◌<◌, ◌≤◌, List, ◌∷◌, get_or, None, Bool, true, false, ◌&&◌, ◌||◌, cond, eqb, Option, inl, inr, refl, sym, subst, ap, ◌∙◌, arith}
 use Rattle.std.proofs.lemmas.Bool.Decides.{eqb_tells}
 use Rattle.reg_map.specs.declared.register.Reg.TheVariants as reg

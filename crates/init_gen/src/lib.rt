@@ -4,7 +4,9 @@
 mod codes;
 mod pins;
 mod setting;
+mod wants;
 mod writes;
 
 pub use setting::{Codes, Oscillator, Setting, Setup};
+pub use wants::target;
 pub use writes::generate;

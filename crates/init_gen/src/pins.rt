@@ -4,7 +4,7 @@ ghost use Rattle.reg_machine.specs.Pins.{is_debug, af_kind};
 ghost use Rattle.init_gen.specs.PinWrites.{mode_wanted, wanted, is_left, pull_code, speed_code, field_op, pull_op, speed_op, type_op, af_op, mode_op, ops_in, part_of, port_and, ports, gpio_ops, gpio_section, IsNarrow, IsGiven, AreWhole};
 
 use crate::setting::Setup;
-use reg_machine::Op;
+use reg_machine::{Op, af_kind, is_debug};
 use reg_map::{GpioReg, Reg};
 use res_model::{Mode, Pull, Speed};
 use std::alloc::AllocError;
@@ -213,22 +213,6 @@ fn is_left(p: u8, m: Mode) -> bool
         Mode::Alt(function) => is_debug(p) && function == 0,
         Mode::Osc | Mode::Held => true,
         _ => false,
-    }
-}
-
-fn is_debug(p: u8) -> bool
-    ensures { result ≡ is_debug p }
-{
-    p == 13 || p == 14 || p == 15 || p == 19 || p == 20
-}
-
-fn af_kind(p: u8) -> GpioReg
-    ensures { result ≡ af_kind p }
-{
-    if p % 16 < 8 {
-        GpioReg::Afrl
-    } else {
-        GpioReg::Afrh
     }
 }
 

@@ -8,14 +8,12 @@ use Rattle.res_base.specs.Fraction.{Fraction, IsAtMost, at_most, whole, over}
 use Rattle.res_model.specs.Clock.{vco_in_of, vco_of, where_used}
 use Rattle.res_model.specs.Limits.{AreWithin, are_within, IsWithinMax}
 use Rattle.res_model.specs.Power.{is_within_max}
-use Rattle.res_model.specs.declared.clock.Facts.{Facts}
-use Rattle.res_model.specs.declared.clock.ClockChoice.{ClockChoice}
 use Rattle.res_model.specs.declared.table.Mode.{Mode}
 use Rattle.res_model.specs.declared.table.Mode.TheVariants as mode
 use Rattle.res_model.specs.declared.table.TableParts.{TableParts}
-use Rattle.reg_machine.specs.Pins.{mode_field, af_field, is_debug, is_function, is_chosen, is_pin_legal, is_place_legal, are_legal_below, IsFunction, IsChosen, IsPinLegal, ArePinsLegal}
+use Rattle.reg_machine.specs.Pins.{mode_field, af_field, is_debug, is_function, is_chosen, is_pin_legal, is_place_legal, are_legal_below, IsFunction, IsChosen, IsPinLegal}
 use Rattle.reg_machine.specs.Tree.{choice_of}
-use Rattle.reg_machine.specs.Legal.{NodesFit, nodes_fit, IsChoiceLegal, is_choice_legal, are_within_some, is_vco_legal, IsLegal, is_legal}
+use Rattle.reg_machine.specs.Legal.{NodesFit, nodes_fit, is_choice_legal, are_within_some, is_vco_legal, IsLegal, is_legal}
 use Rattle.reg_machine.specs.declared.state.State.{State}
 use Rattle.reg_machine.specs.declared.state.Target.{Target}
 use Rattle.reg_machine.proofs.TreeLemmas.{and_left, and_right, both, leb_true}

@@ -1,14 +1,12 @@
 -- The choice that the fields say lies in its ranges, and its nodes.
-use Rattle.std.proofs.Common.{◌≡◌, ℕ, zero, suc, ◌/◌, ◌%◌, ◌^◌, ◌<◌, ◌≤◌, Bool, true, false, ◌&&◌, ◌||◌, leb, Option, Some, None, inl, inr, refl, sym, ap, ◌∙◌, arith}
+use Rattle.std.proofs.Common.{◌≡◌, ℕ, zero, suc, ◌/◌, ◌%◌, ◌^◌, ◌<◌, ◌≤◌, Bool, true, false, ◌&&◌, ◌||◌, leb, inl, inr, refl, ap, ◌∙◌, arith}
 use Rattle.std.proofs.lemmas.Bool.Decides.{leb_tells}
 use Rattle.reg_map.specs.Fields.{field_of}
 use Rattle.reg_map.proofs.BitLemmas.{at_below}
-use Rattle.res_base.specs.Fraction.{Fraction}
-use Rattle.res_model.specs.Clock.{IsBetween, IsInRange, IsOscillator, is_pll, pll_used, vco_in_of, vco_of, clk48_of, sysclk_of, hclk_of, pclk1_of, pclk2_of, timer, where_used, nodes_of}
+use Rattle.res_model.specs.Clock.{IsBetween, IsInRange, IsOscillator, is_pll, nodes_of}
 use Rattle.res_model.specs.declared.clock.ClockChoice.{ClockChoice}
 use Rattle.res_model.specs.declared.clock.Facts.{Facts}
-use Rattle.res_model.specs.declared.clock.Nodes.{Nodes}
-use Rattle.reg_machine.specs.Words.{is_whole, IsStored}
+use Rattle.reg_machine.specs.Words.{IsStored}
 use Rattle.reg_machine.specs.Tree.{m_of, n_of, q_of, hpre_value, ppre_value, src_of, choice_of, nodes_where}
 use Rattle.reg_machine.specs.declared.state.State.{State}
 

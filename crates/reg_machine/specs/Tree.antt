@@ -1,8 +1,7 @@
 -- The clock tree that the registers say (RM0090, RCC).
-use Rattle.std.specs.Prelude.{◌≡◌, ℕ, ◌+◌, ◌*◌, ◌-◌, ◌^◌, Bool, if◌then◌else◌, ◌==◌, nat_lt}
+use Rattle.std.specs.Prelude.{ℕ, ◌+◌, ◌*◌, ◌-◌, ◌^◌, Bool, if◌then◌else◌, ◌==◌, nat_lt}
 use Rattle.reg_map.specs.Fields.{bit_of, field_of}
-use Rattle.res_base.specs.Fraction.{Fraction, whole, times, over}
-use Rattle.res_model.specs.Clock.{output, vco_in_of, vco_of, clk48_of, sysclk_of, hclk_of, pclk1_of, pclk2_of, timer, where_used}
+use Rattle.res_model.specs.Clock.{vco_in_of, vco_of, clk48_of, sysclk_of, hclk_of, pclk1_of, pclk2_of, timer, where_used}
 use Rattle.res_model.specs.declared.clock.ClockChoice.{ClockChoice}
 use Rattle.res_model.specs.declared.clock.Facts.{Facts}
 use Rattle.res_model.specs.declared.clock.Nodes.{Nodes}

@@ -1,4 +1,4 @@
-use Rattle.std.proofs.Common.{sym, subst, ap, ◌∙◌}
+use Rattle.std.proofs.Common.{sym, ◌∙◌}
 use Rattle.reg_machine.proofs.LegalLemmas.{below_none, below_more}
 use Rattle.reg_machine.proofs.pins.are_pins_legal.Goals as goal
 
