@@ -10,3 +10,6 @@ mod writes;
 pub use setting::{Codes, Oscillator, Setting, Setup};
 pub use wants::target;
 pub use writes::generate;
+
+#[cfg(test)]
+mod tests;
