@@ -1,0 +1,3 @@
+pub mod ContestLemmas
+pub mod CountLemmas
+pub mod JudgeLemmas

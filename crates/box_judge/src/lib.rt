@@ -1,0 +1,2 @@
+//! The judges of boxes of a problem.
+#![tactic(auto)]
