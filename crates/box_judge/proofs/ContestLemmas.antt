@@ -9,6 +9,7 @@ use Rattle.std.proofs.lemmas.List.Folds.{list_any_at, list_all_at}
 use Rattle.std.proofs.lemmas.Option.{slice_get-get_or}
 use Rattle.box_split.specs.Boxes.{Run, IsBox, LiesIn, is_single, lows}
 use Rattle.choice_rank.specs.declared.variable.VarShape.{VarShape}
+use Rattle.res_base.specs.Lists.{Each}
 use Rattle.problem.specs.Problem.{HaveValues}
 use Rattle.res_model.specs.declared.table.PinUse.{PinUse}
 use Rattle.res_model.specs.declared.table.TableParts.{TableParts}
@@ -209,3 +210,76 @@ module _ (t : TableParts) (class : Class) (d : PinUse) where
         → (i : ℕ) × (i < length (joined (competes class us) record { variable = v; uses = uses_in us r } (contestants class (v + 1) uss rs))) × (variable_at (joined (competes class us) record { variable = v; uses = uses_in us r } (contestants class (v + 1) uss rs)) i ≡ v + j)
       case zero l e rest = here v record { variable = v; uses = uses_in us r } (contestants class (v + 1) uss rs) refl (competes class us) (competes_at t class d us x (omega (arith, o.1, h.0.1)) (both (are_alike us) (list_all are_alike uss) a).0 e)
       case (suc k) l e rest = there v record { variable = v; uses = uses_in us r } (contestants class (v + 1) uss rs) (competes class us) k (rest k (omega (arith, l)) e)
+
+-- ---- bounds
+
+pub most_variable : (class : Class) (v : ℕ) (uses : List (List PinUse)) (rs : List Run) (i : ℕ) → i < length (contestants class v uses rs) → variable_at (contestants class v uses rs) i < v + length uses
+most_variable class v [] rs i l = absurd (omega arith)
+most_variable class v (us ∷ uss) [] i l = absurd (omega arith)
+most_variable class v (us ∷ uss) (r ∷ rs) i l = case (competes class us) i l (most_variable class (v + 1) uss rs)
+  where
+    case : (b : Bool) (i : ℕ) → i < length (joined b record { variable = v; uses = uses_in us r } (contestants class (v + 1) uss rs)) → ((j : ℕ) → j < length (contestants class (v + 1) uss rs) → variable_at (contestants class (v + 1) uss rs) j < v + 1 + length uss) → variable_at (joined b record { variable = v; uses = uses_in us r } (contestants class (v + 1) uss rs)) i < v + suc (length uss)
+    case true zero l rest = omega arith
+    case true (suc i) l rest = omega (arith, rest i (omega arith))
+    case false i l rest = omega (arith, rest i l)
+
+pub few_contestants : (class : Class) (v : ℕ) (uses : List (List PinUse)) (rs : List Run) → length (contestants class v uses rs) ≤ length uses
+few_contestants class v [] rs = omega arith
+few_contestants class v (us ∷ uss) [] = omega arith
+few_contestants class v (us ∷ uss) (r ∷ rs) = case (competes class us) (few_contestants class (v + 1) uss rs)
+  where
+    case : (b : Bool) → length (contestants class (v + 1) uss rs) ≤ length uss → length (joined b record { variable = v; uses = uses_in us r } (contestants class (v + 1) uss rs)) ≤ suc (length uss)
+    case true h = omega (arith, h)
+    case false h = omega (arith, h)
+
+-- each use of a choice has what each value has
+pub use_has : (P : PinUse → Type 0) (d : PinUse) (uses : List (List PinUse)) (rs : List Run) (choice : List ℕ) → AreInside uses rs → LiesIn rs choice → Each (Each P) uses → (j : ℕ) → j < length (uses_at uses choice) → P (get_or (uses_at uses choice) j d)
+use_has P d [] [] choice h o e j l = absurd (omega arith)
+use_has P d [] (r ∷ rs) choice h o e j l = absurd h
+use_has P d (us ∷ uss) [] choice h o e j l = absurd h
+use_has P d (us ∷ uss) (r ∷ rs) [] h o e j l = absurd o
+use_has P d (us ∷ uss) (r ∷ rs) (x ∷ xs) h o e j l =
+    let first : uses_at (us ∷ uss) (x ∷ xs) ≡ get_or us x d ∷ uses_at uss xs = first_use us x (uses_at uss xs) d (omega (arith, o.1, h.0.1)) in
+    subst (λ (ws : List PinUse). P (get_or ws j d)) (sym first) (case j (subst (λ (ws : List PinUse). j < length ws) first l) (use_has P d uss rs xs h.1 o.2 e.1))
+  where
+    within : (ws : List PinUse) (k : ℕ) → k < length ws → Each P ws → P (get_or ws k d)
+    within [] k l q = absurd (omega arith)
+    within (w ∷ ws) zero l q = q.0
+    within (w ∷ ws) (suc k) l q = within ws k (omega arith) q.1
+
+    case : (j : ℕ) → j < length (get_or us x d ∷ uses_at uss xs) → ((k : ℕ) → k < length (uses_at uss xs) → P (get_or (uses_at uss xs) k d)) → P (get_or (get_or us x d ∷ uses_at uss xs) j d)
+    case zero l rest = within us x (omega (arith, o.1, h.0.1)) e.0
+    case (suc k) l rest = rest k (omega (arith, l))
+
+-- ---- the positions of the signals in a box
+
+pub box_drop : (k : ℕ) (vs : List VarShape) (rs : List Run) → IsBox vs rs → IsBox (drop k vs) (drop k rs)
+box_drop zero vs rs h = h
+box_drop (suc k) [] [] h = tt
+box_drop (suc k) [] (r ∷ rs) h = absurd h
+box_drop (suc k) (v ∷ vs) [] h = absurd h
+box_drop (suc k) (v ∷ vs) (r ∷ rs) h = box_drop k vs rs h.2
+
+pub lies_drop : (k : ℕ) (rs : List Run) (xs : List ℕ) → LiesIn rs xs → LiesIn (drop k rs) (drop k xs)
+lies_drop zero rs xs h = h
+lies_drop (suc k) [] [] h = tt
+lies_drop (suc k) [] (x ∷ xs) h = absurd h
+lies_drop (suc k) (r ∷ rs) [] h = absurd h
+lies_drop (suc k) (r ∷ rs) (x ∷ xs) h = lies_drop k rs xs h.2
+
+pub single_drop : (k : ℕ) (rs : List Run) → is_single rs ≡ true → is_single (drop k rs) ≡ true
+single_drop zero rs h = h
+single_drop (suc k) [] h = refl
+single_drop (suc k) (r ∷ rs) h = single_drop k rs (both (leb r.high r.low) (is_single rs) h).1
+
+pub as_many_values : (vs : List VarShape) (uses : List (List PinUse)) → HaveValues vs uses → length uses ≡ length vs
+as_many_values [] [] h = refl
+as_many_values [] (us ∷ uss) h = absurd h
+as_many_values (v ∷ vs) [] h = absurd h
+as_many_values (v ∷ vs) (us ∷ uss) h = ap suc (as_many_values vs uss h.1)
+
+pub lows_lie : (vs : List VarShape) (rs : List Run) → IsBox vs rs → LiesIn rs (lows rs)
+lows_lie [] [] h = tt
+lows_lie [] (r ∷ rs) h = absurd h
+lows_lie (v ∷ vs) [] h = absurd h
+lows_lie (v ∷ vs) (r ∷ rs) h = (omega arith, h.0, lows_lie vs rs h.2)

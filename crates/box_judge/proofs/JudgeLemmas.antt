@@ -24,7 +24,7 @@ use Rattle.search_api.specs.declared.verdict.Class.{Class}
 use Rattle.search_api.specs.declared.verdict.Class.TheVariants.{Pins, Exti}
 use Rattle.box_judge.specs.Contest.{Contestant, contestants, hall_in, is_contestant, named, resource_of, resources_of, shows_hall, variable_at, wants}
 use Rattle.box_judge.specs.Judged.{HasResources, are_alike}
-use Rattle.box_judge.proofs.ContestLemmas.{AreInside, IsChosen, apart_variables, chosen, placed}
+use Rattle.box_judge.proofs.ContestLemmas.{AreInside, IsChosen, apart_variables, chosen, few_contestants, most_variable, placed}
 use Rattle.box_judge.proofs.CountLemmas.{any_in, and_yes, at_most, both, inject, some_any}
 
 abbrev pub nothing : PinUse
@@ -59,6 +59,9 @@ contradict b e f = let q : true ≡ false = sym e ∙ f in cc
 -- each use in hand has resources below 192
 AreSmall : TableParts → List PinUse → Type 0
 AreSmall t us = (j : ℕ) → j < length us → (class : Class) → resource_of t class (get_or us j nothing) < 192
+
+chain : (a b c d : ℕ) → a ≤ b → b < c → c ≤ d → a < d
+chain a b c d p q r = omega (arith, p, q, r)
 
 not_both : (a b : ℕ) → a < b → b ≤ a → ⊥
 not_both a b l k = absurd (omega (arith, l, k))
@@ -152,3 +155,90 @@ module _ (t : TableParts) (class : Class) (first : ℕ) (uses : List (List PinUs
         let one : ga.0 ≡ gb.0 = sym ra ∙ same ∙ rb in
         let twice : a.0 ≡ b.0 = full.1.apart a.0 b.0 ga.0 a.1 b.1 ga.1 (gb.1 ∙ ap Some (sym one)) in
         omega (arith, l, a.2, b.2, ap (variable_at (contestants class first uses rs)) twice)
+
+-- ---- the set that is computed shows the box
+
+module _ (t : TableParts) (class : Class) (first : ℕ) (uses : List (List PinUse)) (rs : List Run) (few : first + length uses ≤ 192) where
+  abbrev pub those : List Contestant
+  those = contestants class first uses rs
+
+  below : (i : ℕ) → i < length those → variable_at those i < 192
+  below i l = omega (arith, most_variable class first uses rs i l, few)
+
+  module _ (s : VarSet) (hall : IsHall (length those) 192 (wants t class those) s) where
+    has : (v : ℕ) → v < 192 → in_set (named those s) v ≡ any_below (length those) (λ i. in_set s i && (variable_at those i == v))
+    unfolding named
+    has v l = set_test (λ v. any_below (length those) (λ i. in_set s i && (variable_at those i == v))) v l
+
+    -- the place of a member
+    its : (v : ℕ) → v < 192 → in_set (named those s) v ≡ true → (i : ℕ) × (i < length those) × (in_set s i ≡ true) × (variable_at those i ≡ v)
+    its v l e =
+        let h = some_any (length those) (λ i. in_set s i && (variable_at those i == v)) (sym (has v l) ∙ e) in
+        let p = both (in_set s h.0) (variable_at those h.0 == v) h.2 in
+        let same : variable_at those h.0 ≡ v = grind (arith, nat_tests, p.1) in
+        (h.0, h.1, p.0, same)
+
+    in_both : (i : ℕ) → i < length those → in_set s i ≡ true → in_set (named those s) (variable_at those i) ≡ true
+    in_both i l e =
+        let same : (variable_at those i == variable_at those i) ≡ true = grind (arith, nat_tests) in
+        has (variable_at those i) (below i l) ∙ any_in (length those) (λ j. in_set s j && (variable_at those j == variable_at those i)) i l (and_yes (in_set s i) (variable_at those i == variable_at those i) e same)
+
+    out_both : (i : ℕ) → i < length those → in_set (named those s) (variable_at those i) ≡ true → in_set s i ≡ true
+    out_both i l e =
+        let h = its (variable_at those i) (below i l) e in
+        let same : h.0 ≡ i = apart_variables class first uses rs h.0 i h.1 l h.3 in
+        ap (in_set s) (sym same) ∙ h.2
+
+    compete : any_below 192 (λ v. in_set (named those s) v && not (is_contestant those v)) ≡ false
+    compete = elim (bool_cases (any_below 192 (λ v. in_set (named those s) v && not (is_contestant those v)))) [
+      | inr e ↦ e
+      | inl e ↦
+          let h = some_any 192 (λ v. in_set (named those s) v && not (is_contestant those v)) e in
+          let p = both (in_set (named those s) h.0) (not (is_contestant those h.0)) h.2 in
+          let i = its h.0 h.1 p.0 in
+          let same : (variable_at those i.0 == h.0) ≡ true = grind (arith, nat_tests, i.3) in
+          contradict (is_contestant those h.0) (any_in (length those) (λ j. variable_at those j == h.0) i.0 i.1 same) (not_true (is_contestant those h.0) p.1)
+    ]
+
+    no_more : resources_of t class those (named those s) ≤ sum_below 192 (λ r. one_if (is_wanted (length those) (wants t class those) s r))
+    no_more = sum_le 192 (λ r. one_if (any_below (length those) (λ i. in_set (named those s) (variable_at those i) && wants t class those i r))) (λ r. one_if (is_wanted (length those) (wants t class those) s r)) at_each
+      where
+        at_each : (r : ℕ) → r < 192 → one_if (any_below (length those) (λ i. in_set (named those s) (variable_at those i) && wants t class those i r)) ≤ one_if (is_wanted (length those) (wants t class those) s r)
+        at_each r l = elim (bool_cases (any_below (length those) (λ i. in_set (named those s) (variable_at those i) && wants t class those i r))) [
+          | inr e ↦ omega (arith, ap one_if e)
+          | inl e ↦
+              let h = some_any (length those) (λ i. in_set (named those s) (variable_at those i) && wants t class those i r) e in
+              let p = both (in_set (named those s) (variable_at those h.0)) (wants t class those h.0 r) h.2 in
+              let w : is_wanted (length those) (wants t class those) s r ≡ true = any_in (length those) (λ v. in_set s v && wants t class those v r) h.0 h.1 (and_yes (in_set s h.0) (wants t class those h.0 r) (out_both h.0 h.1 p.0) p.1) in
+              omega (arith, ap one_if e, ap one_if w)
+        ]
+
+    as_many : sum_below (length those) (λ i. one_if (in_set s i)) ≤ sum_below 192 (λ v. one_if (in_set (named those s) v))
+    as_many = inject (length those) 192 (in_set s) (in_set (named those s)) (variable_at those) (λ i l e. (below i l, in_both i l e)) (λ i j l k e q same. apart_variables class first uses rs i j l k same)
+
+    named_shows : shows_hall t class those (named those s) ≡ true
+    unfolding shows_hall
+    named_shows =
+        let less : resources_of t class those (named those s) < sum_below 192 (λ v. one_if (in_set (named those s) v)) = chain (resources_of t class those (named those s)) (sum_below 192 (λ r. one_if (is_wanted (length those) (wants t class those) s r))) (sum_below (length those) (λ i. one_if (in_set s i))) (sum_below 192 (λ v. one_if (in_set (named those s) v))) no_more hall.more as_many in
+        let l : nat_lt (resources_of t class those (named those s)) (sum_below 192 (λ v. one_if (in_set (named those s) v))) ≡ true = grind (arith, nat_tests, less) in
+        and_yes (not (any_below 192 (λ v. in_set (named those s) v && not (is_contestant those v)))) (nat_lt (resources_of t class those (named those s)) (sum_below 192 (λ v. one_if (in_set (named those s) v)))) (ap not compete) l
+
+  computed_shows : (o : Option VarSet) (vars : VarSet) → hall_of (length those) 192 (wants t class those) ≡ o → option_map (named those) o ≡ Some vars → shows_hall t class those vars ≡ true
+  computed_shows None vars e h = let q : ◌≡◌ {A = Option VarSet} None (Some vars) = h in cc
+  computed_shows (Some s) vars e h =
+      let q : ◌≡◌ {A = Option VarSet} (Some (named those s)) (Some vars) = h in
+      let same : named those s ≡ vars = cc (q) in
+      subst (λ (x : VarSet). shows_hall t class those x ≡ true) same
+      (named_shows s (some_is_hall (length those) 192 (wants t class those) s (omega (arith, few_contestants class first uses rs, few)) e))
+
+  pub hall_shows : (vars : VarSet) → hall_in t class those ≡ Some vars → shows_hall t class those vars ≡ true
+  unfolding hall_in
+  hall_shows vars h = computed_shows (hall_of (length those) 192 (wants t class those)) vars refl h
+
+  none_at : (o : Option VarSet) → hall_of (length those) 192 (wants t class those) ≡ o → option_map (named those) o ≡ None → IsFull (length those) 192 (wants t class those)
+  none_at None e h = none_is_full (length those) 192 (wants t class those) e
+  none_at (Some s) e h = let q : ◌≡◌ {A = Option VarSet} (Some (named those s)) None = h in cc
+
+  pub none_full : hall_in t class those ≡ None → IsFull (length those) 192 (wants t class those)
+  unfolding hall_in
+  none_full h = none_at (hall_of (length those) 192 (wants t class those)) refl h

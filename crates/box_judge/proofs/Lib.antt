@@ -1,3 +1,4 @@
 pub mod ContestLemmas
 pub mod CountLemmas
 pub mod JudgeLemmas
+pub mod LawLemmas
