@@ -1,7 +1,9 @@
 -- That the parts of the problem agree.
-use Rattle.std.proofs.Common.{◌≡◌, ◌≢◌, ◌⊎◌, inl, inr, ℕ, zero, suc, ◌+◌, ◌<◌, ◌≤◌, ◌^◌, ◌++◌, List, [], ◌∷◌, length, take, drop, Bool, true, false, not, cond, length-append, refl, sym, subst, ap, ◌∙◌, arith}
+use Rattle.std.proofs.Common.{◌≡◌, ◌≢◌, ◌⊎◌, inl, inr, ℕ, zero, suc, ◌+◌, ◌<◌, ◌≤◌, ◌^◌, ◌++◌, List, [], ◌∷◌, length, take, drop, Bool, true, false, ◌&&◌, ◌||◌, not, cond, length-append, refl, sym, subst, ap, ◌∙◌, arith}
 use Rattle.std.specs.Prelude.{filter, find, IfSome, Option, Some, None, Ok, IsSomeAnd, MatchOption, map}
+use Rattle.std.specs.List.{list_all, list_any}
 use Rattle.std.specs.Str.{bytes_eq}
+use Rattle.res_base.proofs.ListLemmas.{each_map}
 use Rattle.res_base.specs.Lists.{Each}
 use Rattle.choice_rank.specs.Choices.{HasPositions, HasSmallSizes, IsNarrow, IsShape}
 use Rattle.choice_rank.specs.declared.variable.VarShape.{VarShape}
@@ -11,7 +13,11 @@ use Rattle.res_model.specs.Clock.{AreFacts, facts_of}
 use Rattle.res_model.specs.Placed.{IsPlaced}
 use Rattle.res_model.specs.Project.{fixes_clock, domain_tests}
 use Rattle.res_model.specs.Signals.{signal_named, rows_of, own_mode}
-use Rattle.res_model.specs.Valid.{IsValid, IsSignal}
+use Rattle.res_model.specs.Valid.{IsValid, IsModeOf, IsSignal}
+use Rattle.res_model.specs.Placement.{is_exti}
+use Rattle.res_model.specs.declared.table.Role.{Role}
+use Rattle.res_model.specs.declared.table.Role.TheVariants as role
+use Rattle.res_model.specs.declared.table.Mode.TheVariants as mode
 use Rattle.res_model.specs.Values.{is_at, rows_at, rows_elsewhere, use_at, placed, values_from, values_of, pin_values, pin_variables}
 use Rattle.res_model.specs.declared.clock.Facts.{Facts}
 use Rattle.res_model.specs.declared.command.Opts.{Opts}
@@ -25,7 +31,7 @@ use Rattle.problem.specs.declared.parts.Part.{Part}
 use Rattle.problem.specs.declared.parts.Part.TheVariants.{PinsOnly, Whole}
 use Rattle.problem.specs.declared.parts.ProblemParts.{ProblemParts}
 use Rattle.problem.specs.ClockValues.{clock_domains, clock_values, clock_variables}
-use Rattle.problem.specs.Problem.{AreHomesDue, ArePins, HaveValues, IsClock, IsProblem, clock_of, clock_shape, first_of, problem_of, shape_of}
+use Rattle.problem.specs.Problem.{are_alike, AreHomesDue, ArePins, HaveValues, IsClock, IsProblem, clock_of, clock_shape, first_of, problem_of, shape_of}
 use Rattle.problem.proofs.ValueLemmas.{AreDomainsIn, AreHomesIn, spans, domains_in, tests_in, homes_in, values_in, in_range, as_many, clock_positions, clock_small, clock_have, clock_length}
 
 pub each_sized : (t : TableParts) (ss : List Signal) → IsValid t → Each (IsPlaced t) ss → Each (IsSized t) ss
@@ -173,6 +179,69 @@ pub all_pinned : (t : TableParts) (ss : List Signal) → IsValid t → Each (IsP
 all_pinned t [] valid h = tt
 all_pinned t (s ∷ ss) valid h = (pinned t s valid h.0, all_pinned t ss valid h.1)
 
+-- ---- interrupts
+
+plain_mode : (r : Role) (m : Mode) → IsModeOf r m → is_exti m ≡ false
+plain_mode role.Alt (mode.Alt n) h = refl
+plain_mode role.Alt mode.Input h = absurd h
+plain_mode role.Alt mode.Output h = absurd h
+plain_mode role.Alt mode.Analog h = absurd h
+plain_mode role.Alt mode.Exti h = absurd h
+plain_mode role.Alt mode.Osc h = absurd h
+plain_mode role.Alt mode.Held h = absurd h
+plain_mode role.Input m h = absurd h
+plain_mode role.Output m h = absurd h
+plain_mode role.Analog m h = ap is_exti h
+plain_mode role.Exti m h = absurd h
+plain_mode role.Osc m h = ap is_exti h
+
+abbrev ArePlain : List PinUse → Type 0
+ArePlain us = Each (λ (u : PinUse). is_exti u.mode ≡ false) us
+
+none_is : (us : List PinUse) → ArePlain us → list_any (λ (u : PinUse). is_exti u.mode) us ≡ false
+none_is [] h = refl
+none_is (u ∷ us) h = rw h.0 (none_is us h.1)
+
+plain_alike : (us : List PinUse) → ArePlain us → are_alike us ≡ true
+plain_alike us h = rw (none_is us h) refl
+
+one_alike : (b : Bool) → (not (b || false) || (b && true)) ≡ true
+one_alike true = refl
+one_alike false = refl
+
+own_alike : (home : ℕ) (own : Option Mode) → are_alike (use_at home own) ≡ true
+own_alike home None = refl
+own_alike home (Some m) = one_alike (is_exti m)
+
+placed_alike : (rows : List PinUse) (own : Option Mode) (locked : Bool) (home : ℕ) → ArePlain rows → are_alike (placed rows own locked home) ≡ true
+placed_alike [] own locked home h = own_alike home own
+placed_alike (row ∷ rows) own true home h =
+    plain_alike (rows_at home (row ∷ rows) ++ []) (uses_append (λ u. is_exti u.mode ≡ false) (rows_at home (row ∷ rows)) [] (uses_filter (λ u. is_exti u.mode ≡ false) (is_at home) (row ∷ rows) h) tt)
+placed_alike (row ∷ rows) own false home h =
+    plain_alike (rows_at home (row ∷ rows) ++ rows_elsewhere home (row ∷ rows))
+    (uses_append (λ u. is_exti u.mode ≡ false) (rows_at home (row ∷ rows)) (rows_elsewhere home (row ∷ rows)) (uses_filter (λ u. is_exti u.mode ≡ false) (is_at home) (row ∷ rows) h)
+    (uses_filter (λ u. is_exti u.mode ≡ false) (λ u. not (is_at home u)) (row ∷ rows) h))
+
+values_alike : (rows : List PinUse) (own : Option Mode) (locked : Bool) (home : Option ℕ) → ArePlain rows → are_alike (values_from rows own locked home) ≡ true
+values_alike rows own locked None h = plain_alike rows h
+values_alike rows own locked (Some home) h = placed_alike rows own locked home h
+
+rows_plain : (n : ℕ) (o : Option TableSignal) → MatchOption o (Unit {0}) (IsSignal n) → ArePlain (rows_of o)
+rows_plain n None h = tt
+rows_plain n (Some s) h = each_map (λ (u : PinUse). IsModeOf s.role u.mode) (λ (u : PinUse). is_exti u.mode ≡ false) s.at (λ u k. plain_mode s.role u.mode k) h.rows.modes
+
+signal_alike : (t : TableParts) (s : Signal) → IsValid t → are_alike (values_of t s) ≡ true
+unfolding signal_named values_of
+signal_alike t s valid =
+    let found : Option TableSignal = find (λ x. bytes_eq x.name s.name) t.signals in
+    values_alike (rows_of found) (own_mode s.name found) s.locked s.home
+    (rows_plain (length t.pins) found (each_find (IsSignal (length t.pins)) (λ x. bytes_eq x.name s.name) t.signals valid.signals.each))
+
+-- no signal has interrupts beside other values
+all_alike : (t : TableParts) (ss : List Signal) → IsValid t → list_all are_alike (pin_values t ss) ≡ true
+all_alike t [] valid = refl
+all_alike t (s ∷ ss) valid = rw (signal_alike t s valid) (all_alike t ss valid)
+
 module _ (t : TableParts) (p : Project) (opts : Opts) (part : Part) (valid : IsValid t) (ten : length p.clock ≡ 10) (few : length p.signals ≤ 160) (placed : Each (IsPlaced t) p.signals) (due : AreHomesDue t p opts part) where
   clocks : Clocks t p opts part
   clocks = clocks_are t p opts part valid ten due
@@ -203,6 +272,7 @@ module _ (t : TableParts) (p : Project) (opts : Opts) (part : Part) (valid : IsV
     signals = sym (length_values t p.signals);
     few = few;
     pins = all_pinned t p.signals valid placed;
+    alike = all_alike t p.signals valid;
     facts = facts_are hertz;
     clock = clocks.clock;
   }

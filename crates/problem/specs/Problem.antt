@@ -1,5 +1,6 @@
 -- The problem that a table, a project and options make, and what every problem keeps.
-use Rattle.std.specs.Prelude.{◌≡◌, ◌≢◌, ℕ, ◌≤◌, ◌<◌, ◌+◌, ◌++◌, List, [], ◌∷◌, Bool, true, Ok, length, take, drop, Option, slice_get, slice_index, slice_index_or}
+use Rattle.std.specs.Prelude.{◌≡◌, ◌≢◌, ℕ, ◌≤◌, ◌<◌, ◌+◌, ◌++◌, List, [], ◌∷◌, Bool, true, not, ◌||◌, Ok, length, take, drop, Option, slice_get, slice_index, slice_index_or}
+use Rattle.std.specs.List.{list_all, list_any}
 use Rattle.res_base.specs.Lists.{Each}
 use Rattle.choice_rank.specs.declared.variable.VarShape.{VarShape}
 use Rattle.choice_rank.specs.declared.shape.ShapeFault.{ShapeFault}
@@ -10,6 +11,7 @@ use Rattle.res_model.specs.declared.project.Project.{Project}
 use Rattle.res_model.specs.declared.table.PinUse.{PinUse}
 use Rattle.res_model.specs.declared.table.TableParts.{TableParts}
 use Rattle.res_model.specs.Clock.{AreFacts, facts_of}
+use Rattle.res_model.specs.Placement.{is_exti}
 use Rattle.res_model.specs.Project.{all_within, domain_tests, fixes_clock}
 use Rattle.res_model.specs.Ranges.{AreInRange}
 use Rattle.res_model.specs.Values.{pin_values, pin_variables}
@@ -66,6 +68,10 @@ HaveValues (v ∷ vs) (xs ∷ xss) = (v.size ≡ length xs) × HaveValues vs xss
 abbrev pub ArePins : TableParts → List PinUse → Type 0
 ArePins t us = Each (λ (u : PinUse). u.pin < length t.pins) us
 
+-- an interrupt has no value that is none
+abbrev pub are_alike : List PinUse → Bool
+are_alike us = not (list_any (λ (u : PinUse). is_exti u.mode) us) || list_all (λ (u : PinUse). is_exti u.mode) us
+
 -- ten lists of clock values, within the widest
 pub record IsClock (values : List (List ℕ)) : Type 0 where
   pub ten : length values ≡ 10
@@ -80,5 +86,6 @@ pub record IsProblem (p : ProblemParts) : Type 0 where
   pub signals : length p.signals ≡ length p.uses
   pub few : length p.signals ≤ 160
   pub pins : Each (ArePins p.tables) p.uses
+  pub alike : list_all are_alike p.uses ≡ true
   pub facts : AreFacts p.facts
   pub clock : p.first ≢ 0 → IsClock p.clock
