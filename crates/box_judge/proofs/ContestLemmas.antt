@@ -10,14 +10,14 @@ use Rattle.std.proofs.lemmas.Option.{slice_get-get_or}
 use Rattle.box_split.specs.Boxes.{Run, IsBox, LiesIn, is_single, lows}
 use Rattle.choice_rank.specs.declared.variable.VarShape.{VarShape}
 use Rattle.res_base.specs.Lists.{Each}
-use Rattle.problem.specs.Problem.{HaveValues}
+use Rattle.problem.specs.Problem.{HaveValues, are_alike}
 use Rattle.res_model.specs.declared.table.PinUse.{PinUse}
 use Rattle.res_model.specs.declared.table.TableParts.{TableParts}
 use Rattle.res_model.specs.Placement.{is_exti, number_of, uses_at}
 use Rattle.search_api.specs.declared.verdict.Class.{Class}
 use Rattle.search_api.specs.declared.verdict.Class.TheVariants.{Pins, Exti}
 use Rattle.box_judge.specs.Contest.{Contestant, competes, contestants, joined, resource_of, uses_in, variable_at, wants}
-use Rattle.box_judge.specs.Judged.{are_alike}
+use Rattle.box_judge.specs.Inside.{AreInside}
 use Rattle.box_judge.proofs.CountLemmas.{both}
 
 -- ---- the variables ascend
@@ -48,12 +48,6 @@ apart_variables class v (us ∷ uss) (r ∷ rs) i j l k e = case (competes class
     case false i j l k e low rest = rest i j l k e
 
 -- ---- the runs lie within the values
-
-abbrev pub AreInside : List (List PinUse) → List Run → Type 0
-AreInside [] [] = Unit {0}
-AreInside [] (r ∷ rs) = ⊥
-AreInside (us ∷ uss) [] = ⊥
-AreInside (us ∷ uss) (r ∷ rs) = ((r.low ≤ r.high) × (r.high < length us)) × AreInside uss rs
 
 pub box_inside : (vs : List VarShape) (uses : List (List PinUse)) (rs : List Run) → HaveValues vs uses → IsBox vs rs → AreInside uses rs
 box_inside [] [] [] h b = tt

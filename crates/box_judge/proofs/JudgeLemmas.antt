@@ -16,6 +16,7 @@ use Rattle.pin_match.proofs.FreedLemmas.{none_is_full, some_is_hall}
 use Rattle.pin_match.proofs.WordLemmas.{set_test}
 use Rattle.res_model.specs.declared.table.Mode.{Mode}
 use Rattle.res_model.specs.declared.table.Mode.TheVariants.{Exti as interrupt, Held}
+use Rattle.problem.specs.Problem.{are_alike}
 use Rattle.res_model.specs.declared.table.PinUse.{PinUse}
 use Rattle.res_model.specs.declared.table.TableParts.{TableParts}
 use Rattle.res_model.specs.Placement.{Fits, fits, is_exti, number_of, uses_at}
@@ -23,8 +24,9 @@ use Rattle.pin_rules.proofs.FitLemmas.{fits_sentences, sentences_fit}
 use Rattle.search_api.specs.declared.verdict.Class.{Class}
 use Rattle.search_api.specs.declared.verdict.Class.TheVariants.{Pins, Exti}
 use Rattle.box_judge.specs.Contest.{Contestant, contestants, hall_in, is_contestant, named, resource_of, resources_of, shows_hall, variable_at, wants}
-use Rattle.box_judge.specs.Judged.{HasResources, are_alike}
-use Rattle.box_judge.proofs.ContestLemmas.{AreInside, IsChosen, apart_variables, chosen, few_contestants, most_variable, placed}
+use Rattle.box_judge.specs.Judged.{HasResources}
+use Rattle.box_judge.specs.Inside.{AreInside}
+use Rattle.box_judge.proofs.ContestLemmas.{IsChosen, apart_variables, chosen, few_contestants, most_variable, placed}
 use Rattle.box_judge.proofs.CountLemmas.{any_in, and_yes, at_most, both, inject, some_any}
 
 abbrev pub nothing : PinUse

@@ -12,7 +12,7 @@ use Rattle.choice_rank.specs.declared.variable.VarShape.{VarShape}
 use Rattle.pin_rules.proofs.FitLemmas.{sentences_fit}
 use Rattle.problem.specs.declared.parts.ProblemParts.{ProblemParts}
 use Rattle.problem.specs.Meets.{meets}
-use Rattle.problem.specs.Problem.{HaveValues}
+use Rattle.problem.specs.Problem.{HaveValues, are_alike}
 use Rattle.res_model.specs.declared.table.Mode.{Mode}
 use Rattle.res_model.specs.declared.table.Mode.TheVariants.{Exti as interrupt}
 use Rattle.res_model.specs.declared.table.PinUse.{PinUse}
@@ -28,8 +28,9 @@ use Rattle.search_api.specs.declared.verdict.Verdict.{Verdict}
 use Rattle.search_api.specs.declared.verdict.Verdict.TheVariants.{Bad, Legal, Open}
 use Rattle.search_api.specs.Meaning.{IsLawful}
 use Rattle.box_judge.specs.Contest.{hall_in, resource_of, shows_hall}
-use Rattle.box_judge.specs.Judged.{HasResources, are_alike, contest, pin_meaning, pin_verdict, shows_pins, verdict_from}
-use Rattle.box_judge.proofs.ContestLemmas.{AreInside, as_many_values, box_drop, box_inside, lies_drop, lows_lie, single_drop, use_has}
+use Rattle.box_judge.specs.Judged.{HasResources, IsReady, contest, pin_meaning, pin_verdict, shows_pins, verdict_from}
+use Rattle.box_judge.specs.Inside.{AreInside}
+use Rattle.box_judge.proofs.ContestLemmas.{as_many_values, box_drop, box_inside, lies_drop, lows_lie, single_drop, use_has}
 use Rattle.box_judge.proofs.CountLemmas.{both}
 use Rattle.box_judge.proofs.JudgeLemmas.{hall_shows, kept_apart, no_choice_fits, none_full, nothing}
 
@@ -57,14 +58,6 @@ open_from None None false e = refl
 
 other_class : {A : Type 0} → Pins ≡ Exti → A
 other_class e = cc
-
--- what a judge keeps of its problem
-pub record IsReady (p : ProblemParts) : Type 0 where
-  pub shape : IsShape p.shape
-  pub first : p.first ≤ 10
-  pub sizes : HaveValues (drop p.first p.shape) p.uses
-  pub resources : Each (Each (HasResources p.tables)) p.uses
-  pub alike : list_all are_alike p.uses ≡ true
 
 drop_lows : (k : ℕ) (rs : List Run) → drop k (lows rs) ≡ lows (drop k rs)
 drop_lows zero rs = refl

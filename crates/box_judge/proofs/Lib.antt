@@ -2,3 +2,4 @@ pub mod ContestLemmas
 pub mod CountLemmas
 pub mod JudgeLemmas
 pub mod LawLemmas
+pub mod MemberLemmas

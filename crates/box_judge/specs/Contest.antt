@@ -75,3 +75,8 @@ unfoldable pub shows_hall : TableParts → Class → List Contestant → VarSet 
 shows_hall t class cs vars =
     not (any_below 192 (λ v. in_set vars v && not (is_contestant cs v)))
     && nat_lt (resources_of t class cs vars) (sum_below 192 (λ v. one_if (in_set vars v)))
+
+-- the places among the signals, from a first one on, of those that compete
+abbrev pub members_of : Class → ℕ → List (List PinUse) → List ℕ
+members_of class s [] = []
+members_of class s (us ∷ uss) = if competes class us then s ∷ members_of class (s + 1) uss else members_of class (s + 1) uss

@@ -1,14 +1,16 @@
 -- What shows a box, and the verdict on it.
-use Rattle.std.specs.Prelude.{◌≡◌, ℕ, ◌<◌, ◌&&◌, List, [], ◌∷◌, Bool, true, false, not, ◌||◌, drop, Option, Some, None}
-use Rattle.std.specs.List.{list_all, list_any}
+use Rattle.std.specs.Prelude.{◌≡◌, ℕ, ◌<◌, ◌≤◌, List, [], ◌∷◌, Bool, true, false, drop, Option, Some, None}
+use Rattle.std.specs.List.{list_all}
 use Rattle.res_base.specs.declared.var_set.VarSet.{VarSet}
 use Rattle.res_base.specs.Lists.{Each}
 use Rattle.box_split.specs.Boxes.{Run, is_single}
 use Rattle.problem.specs.declared.parts.ProblemParts.{ProblemParts}
+use Rattle.choice_rank.specs.Choices.{IsShape}
 use Rattle.problem.specs.Meets.{meets}
+use Rattle.problem.specs.Problem.{HaveValues, are_alike}
 use Rattle.res_model.specs.declared.table.PinUse.{PinUse}
 use Rattle.res_model.specs.declared.table.TableParts.{TableParts}
-use Rattle.res_model.specs.Placement.{is_exti, number_of}
+use Rattle.res_model.specs.Placement.{number_of}
 use Rattle.search_api.specs.declared.verdict.Class.{Class}
 use Rattle.search_api.specs.declared.verdict.Class.TheVariants.{Pins, Exti}
 use Rattle.search_api.specs.declared.verdict.Reason.{Reason}
@@ -44,6 +46,10 @@ pin_meaning p = record { shape = p.shape; legal = meets p; shows = shows_pins p;
 abbrev pub HasResources : TableParts → PinUse → Type 0
 HasResources t u = (u.pin < 192) × (number_of t u.pin < 192)
 
--- an interrupt has no value that is none
-abbrev pub are_alike : List PinUse → Bool
-are_alike us = not (list_any (λ (u : PinUse). is_exti u.mode) us) || list_all (λ (u : PinUse). is_exti u.mode) us
+-- what a judge keeps of its problem
+pub record IsReady (p : ProblemParts) : Type 0 where
+  pub shape : IsShape p.shape
+  pub first : p.first ≤ 10
+  pub sizes : HaveValues (drop p.first p.shape) p.uses
+  pub resources : Each (Each (HasResources p.tables)) p.uses
+  pub alike : list_all are_alike p.uses ≡ true

@@ -1,2 +1,4 @@
 pub mod Contest
+pub mod Inside
 pub mod Judged
+pub mod Room

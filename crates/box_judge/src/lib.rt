@@ -1,2 +1,4 @@
 //! The judges of boxes of a problem.
 #![tactic(auto)]
+
+mod contest;
