@@ -1,5 +1,0 @@
-pub mod ContestLemmas
-pub mod CountLemmas
-pub mod JudgeLemmas
-pub mod LawLemmas
-pub mod MemberLemmas

@@ -1,4 +1,2 @@
-pub mod Contest
-pub mod Inside
-pub mod Judged
+pub mod Ready
 pub mod Room

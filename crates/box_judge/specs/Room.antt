@@ -9,7 +9,7 @@ use Rattle.res_model.specs.declared.table.PinUse.{PinUse}
 use Rattle.res_model.specs.declared.table.TableParts.{TableParts}
 use Rattle.search_api.specs.declared.verdict.Class.{Class}
 use Rattle.box_judge.specs.declared.contest.Contest.{Contest}
-use Rattle.box_judge.specs.Contest.{members_of, resource_of}
+use Rattle.box_rules.specs.Contest.{members_of, resource_of}
 
 -- the room is for the signals of the class
 pub record IsContest (class : Class) (uses : List (List PinUse)) (c : Contest) : Type 0 where

@@ -4,13 +4,13 @@ ghost use Rattle.std.specs.Prelude.{[], ◌+◌, ◌&&◌, ◌≡◌, ◌==◌, 
 ghost use Rattle.std.specs.List.{list_all, list_any};
 ghost use Rattle.std.specs.Option.{option_map_or};
 ghost use Rattle.res_base.specs.Lists.{Each};
-ghost use Rattle.res_base.specs.VarSet.{in_set};
+ghost use Rattle.res_base.specs.VarSet.{in_set, IsWords};
 ghost use Rattle.res_model.specs.Placement.{is_exti, number_of};
 ghost use Rattle.box_split.specs.BoxIn.{runs_in};
 ghost use Rattle.pin_match.specs.Sets.{fits_in};
-ghost use Rattle.box_judge.specs.Contest.{competes, contestants, hall_in, members_of, resource_of, uses_in, wants};
-ghost use Rattle.box_judge.specs.Inside.{AreInside};
-ghost use Rattle.box_judge.specs.Judged.{HasResources};
+ghost use Rattle.box_rules.specs.Contest.{competes, contestants, hall_in, members_of, resource_of, uses_in, wants};
+ghost use Rattle.box_rules.specs.Inside.{AreInside};
+ghost use Rattle.box_rules.specs.Judged.{HasResources};
 
 use pin_match::Matcher;
 use res_base::{Items, OutOfMemory, VarSet};
@@ -149,6 +149,16 @@ fn fill(
 
 /// The variables of the members at some places.
 fn named(members: &[u16], first: u16, s: &VarSet) -> VarSet
+    requires few { length members.now ≤ 170 }
+    requires small { (i : ℕ) → i < length members.now → first + slice_index members.now i < 192 }
+    ensures set { (v : ℕ) → in_set result v ≡ any_below (length members.now) (λ i. in_set s.now i && (first + slice_index members.now i == v)) }
+    ensures words { IsWords result }
+{
+    gathered(members, first, s)
+}
+
+/// The variables of the members at some places, put together.
+fn gathered(members: &[u16], first: u16, s: &VarSet) -> VarSet
     requires few { length members.now ≤ 170 }
     requires small { (i : ℕ) → i < length members.now → first + slice_index members.now i < 192 }
     ensures { (v : ℕ) → in_set result v ≡ any_below (length members.now) (λ i. in_set s.now i && (first + slice_index members.now i == v)) }

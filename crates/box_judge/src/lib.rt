@@ -2,3 +2,6 @@
 #![tactic(auto)]
 
 mod contest;
+mod pins;
+
+pub use pins::{PinJudge, PinRoom};

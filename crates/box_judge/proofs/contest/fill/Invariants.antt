@@ -1,5 +1,5 @@
 use Rattle.std.proofs.Common.{◌≡◌, ◌<◌, ℕ}
-use Rattle.box_judge.proofs.MemberLemmas.{IsFilled}
+use Rattle.box_rules.proofs.MemberLemmas.{IsFilled}
 use Rattle.box_judge.proofs.contest.fill.Given as goal
 
 abbrev pub invariant-loop-i : goal.invariant-loop-i

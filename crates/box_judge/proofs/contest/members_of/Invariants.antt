@@ -1,5 +1,5 @@
 use Rattle.std.proofs.Common.{◌≡◌, ◌++◌, drop}
-use Rattle.box_judge.specs.Contest.{members_of}
+use Rattle.box_rules.specs.Contest.{members_of}
 use Rattle.box_judge.proofs.contest.members_of.Given as goal
 
 abbrev pub invariant-loop-s : goal.invariant-loop-s

@@ -1,7 +1,7 @@
 use Rattle.std.proofs.Common.{◌≡◌, ◌≤◌, ◌<◌, [], length, get_or, subst, arith}
 use Rattle.box_split.specs.BoxIn.{runs_in}
 use Rattle.box_split.specs.Boxes.{Run}
-use Rattle.box_judge.proofs.MemberLemmas.{inside_at, run_at}
+use Rattle.box_rules.proofs.MemberLemmas.{inside_at, run_at}
 use Rattle.box_judge.proofs.contest.wanted.Goals as goal
 
 pub uses_in-requires-clause-ordered : goal.uses_in-requires-clause-ordered

@@ -23,11 +23,11 @@ use Rattle.res_model.specs.Placement.{Fits, fits, is_exti, number_of, uses_at}
 use Rattle.pin_rules.proofs.FitLemmas.{fits_sentences, sentences_fit}
 use Rattle.search_api.specs.declared.verdict.Class.{Class}
 use Rattle.search_api.specs.declared.verdict.Class.TheVariants.{Pins, Exti}
-use Rattle.box_judge.specs.Contest.{Contestant, contestants, hall_in, is_contestant, named, resource_of, resources_of, shows_hall, variable_at, wants}
-use Rattle.box_judge.specs.Judged.{HasResources}
-use Rattle.box_judge.specs.Inside.{AreInside}
-use Rattle.box_judge.proofs.ContestLemmas.{IsChosen, apart_variables, chosen, few_contestants, most_variable, placed}
-use Rattle.box_judge.proofs.CountLemmas.{any_in, and_yes, at_most, both, inject, some_any}
+use Rattle.box_rules.specs.Contest.{Contestant, contestants, hall_in, is_contestant, named, resource_of, resources_of, shows_hall, variable_at, wants}
+use Rattle.box_rules.specs.Judged.{HasResources}
+use Rattle.box_rules.specs.Inside.{AreInside}
+use Rattle.box_rules.proofs.ContestLemmas.{IsChosen, apart_variables, chosen, few_contestants, most_variable, placed}
+use Rattle.box_rules.proofs.CountLemmas.{any_in, and_yes, at_most, both, inject, some_any}
 
 abbrev pub nothing : PinUse
 nothing = record { pin = 0; mode = Held }

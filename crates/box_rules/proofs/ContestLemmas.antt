@@ -16,9 +16,9 @@ use Rattle.res_model.specs.declared.table.TableParts.{TableParts}
 use Rattle.res_model.specs.Placement.{is_exti, number_of, uses_at}
 use Rattle.search_api.specs.declared.verdict.Class.{Class}
 use Rattle.search_api.specs.declared.verdict.Class.TheVariants.{Pins, Exti}
-use Rattle.box_judge.specs.Contest.{Contestant, competes, contestants, joined, resource_of, uses_in, variable_at, wants}
-use Rattle.box_judge.specs.Inside.{AreInside}
-use Rattle.box_judge.proofs.CountLemmas.{both}
+use Rattle.box_rules.specs.Contest.{Contestant, competes, contestants, joined, resource_of, uses_in, variable_at, wants}
+use Rattle.box_rules.specs.Inside.{AreInside}
+use Rattle.box_rules.proofs.CountLemmas.{both}
 
 -- ---- the variables ascend
 

@@ -18,7 +18,7 @@ use Rattle.search_api.specs.declared.verdict.Reason.TheVariants.{Hall, Limit}
 use Rattle.search_api.specs.declared.verdict.Verdict.{Verdict}
 use Rattle.search_api.specs.declared.verdict.Verdict.TheVariants.{Bad, Legal, Open}
 use Rattle.search_api.specs.Meaning.{Meaning}
-use Rattle.box_judge.specs.Contest.{Contestant, contestants, hall_in, shows_hall}
+use Rattle.box_rules.specs.Contest.{Contestant, contestants, hall_in, shows_hall}
 
 -- the signals of a class in a box
 abbrev pub contest : ProblemParts → Class → List Run → List Contestant

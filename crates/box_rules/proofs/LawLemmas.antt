@@ -27,12 +27,12 @@ use Rattle.search_api.specs.declared.verdict.Reason.TheVariants.{Hall, Limit}
 use Rattle.search_api.specs.declared.verdict.Verdict.{Verdict}
 use Rattle.search_api.specs.declared.verdict.Verdict.TheVariants.{Bad, Legal, Open}
 use Rattle.search_api.specs.Meaning.{IsLawful}
-use Rattle.box_judge.specs.Contest.{hall_in, resource_of, shows_hall}
-use Rattle.box_judge.specs.Judged.{HasResources, IsReady, contest, pin_meaning, pin_verdict, shows_pins, verdict_from}
-use Rattle.box_judge.specs.Inside.{AreInside}
-use Rattle.box_judge.proofs.ContestLemmas.{as_many_values, box_drop, box_inside, lies_drop, lows_lie, single_drop, use_has}
-use Rattle.box_judge.proofs.CountLemmas.{both}
-use Rattle.box_judge.proofs.JudgeLemmas.{hall_shows, kept_apart, no_choice_fits, none_full, nothing}
+use Rattle.box_rules.specs.Contest.{hall_in, resource_of, shows_hall}
+use Rattle.box_rules.specs.Judged.{HasResources, IsReady, contest, pin_meaning, pin_verdict, shows_pins, verdict_from}
+use Rattle.box_rules.specs.Inside.{AreInside}
+use Rattle.box_rules.proofs.ContestLemmas.{as_many_values, box_drop, box_inside, lies_drop, lows_lie, single_drop, use_has}
+use Rattle.box_rules.proofs.CountLemmas.{both}
+use Rattle.box_rules.proofs.JudgeLemmas.{hall_shows, kept_apart, no_choice_fits, none_full, nothing}
 
 small_of : (t : TableParts) (class : Class) (u : PinUse) → HasResources t u → resource_of t class u < 192
 small_of t Pins u h = h.0

@@ -1,9 +1,9 @@
 -- Those that compete, by their places.
-use Rattle.std.proofs.Common.{◌≡◌, ◌≢◌, ℕ, zero, suc, ◌+◌, ◌-◌, ◌<◌, ◌≤◌, ◌==◌, List, [], ◌∷◌, length, get_or, take, drop, Bool, true, false, ◌&&◌, ◌||◌, cond, Option, inl, inr, refl, sym, subst, ap, ◌∙◌, arith}
+use Rattle.std.proofs.Common.{◌≡◌, ◌≢◌, ℕ, zero, suc, ◌+◌, ◌-◌, ◌<◌, ◌≤◌, ◌==◌, ◌++◌, List, [], ◌∷◌, length, get_or, take, drop, Bool, true, false, ◌&&◌, ◌||◌, cond, Option, inl, inr, refl, sym, subst, ap, ◌∙◌, arith}
 use mathlib.Core.Path.{fun_ext}
 use Rattle.std.specs.Prelude.{option_map}
 use Rattle.std.specs.List.{list_any}
-use Rattle.std.proofs.lemmas.List.{get_or_past}
+use Rattle.std.proofs.lemmas.List.{drop_all, take_all}
 use Rattle.res_base.specs.declared.var_set.VarSet.{VarSet}
 use Rattle.res_base.specs.Lists.{Each}
 use Rattle.res_base.specs.VarSet.{in_set, IsWords}
@@ -19,8 +19,8 @@ use Rattle.pin_match.proofs.SetLemmas as sets
 use Rattle.res_model.specs.declared.table.PinUse.{PinUse}
 use Rattle.res_model.specs.declared.table.TableParts.{TableParts}
 use Rattle.search_api.specs.declared.verdict.Class.{Class}
-use Rattle.box_judge.specs.Contest.{Contestant, competes, contestants, hall_in, joined, members_of, named, resource_of, uses_in, variable_at, wants}
-use Rattle.box_judge.specs.Inside.{AreInside}
+use Rattle.box_rules.specs.Contest.{Contestant, competes, contestants, hall_in, joined, members_of, named, resource_of, uses_in, variable_at, wants}
+use Rattle.box_rules.specs.Inside.{AreInside}
 
 abbrev pub no_run : Run
 no_run = record { low = 0; high = 0 }
@@ -194,3 +194,13 @@ module _ (t : TableParts) (class : Class) (first : ℕ) (uses : List (List PinUs
   hall_is ss fit o e found f =
       let cs = contestants class first uses rs in
       sym f ∙ ap (λ (x : Option VarSet). option_map (named cs) x) (e ∙ ap (λ (g : ℕ → ℕ → Bool). hall_of (length ms) 192 g) fit ∙ ap (λ (n : ℕ). hall_of n 192 (wants t class cs)) (sym count))
+
+-- what a vector holds after all of it was written
+pub whole : (n : ℕ) (new items : List VarSet) → length new ≡ n → length items ≡ n → take n (new ++ drop (length new) items) ≡ new
+whole n new items e f =
+    let past : drop (length new) items ≡ [] = drop_all (length new) items (omega (arith, e, f)) in
+    ap (λ (l : List VarSet). take n (new ++ l)) past ∙ ap (λ (l : List VarSet). take n l) (no_more new) ∙ take_all n new (omega (arith, e))
+  where
+    no_more : (l : List VarSet) → l ++ [] ≡ l
+    no_more [] = refl
+    no_more (x ∷ xs) = ap (λ (r : List VarSet). x ∷ r) (no_more xs)
