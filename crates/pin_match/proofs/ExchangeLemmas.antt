@@ -24,7 +24,7 @@ unfolding handed
 handed_other g u v r w d e = let t : eqb w u ≡ false = grind (arith, nat_tests) in let q : eqb w v ≡ false = grind (arith, nat_tests) in rw (t, q) refl
 
 -- what the handed assignment gives w
-handed_cases : (g : ℕ → Option ℕ) (u v r w x : ℕ) → handed g u v r w ≡ Some x → ((w ≡ u) × (x ≡ r)) ⊎ ((w ≢ u) × (w ≢ v) × (g w ≡ Some x))
+pub handed_cases : (g : ℕ → Option ℕ) (u v r w x : ℕ) → handed g u v r w ≡ Some x → ((w ≡ u) × (x ≡ r)) ⊎ ((w ≢ u) × (w ≢ v) × (g w ≡ Some x))
 handed_cases g u v r w x e = elim (split w u) [
   | inl p ↦ let q : ◌≡◌ {A = Option ℕ} (Some x) (Some r) = sym e ∙ handed_u g u v r w p in let same : x ≡ r = cc in inl (p, same)
   | inr d ↦ elim (split w v) [
@@ -39,7 +39,7 @@ by_tests false true r o = refl
 by_tests false false r o = refl
 
 module _ (n m : ℕ) (fits : ℕ → ℕ → Bool) where
-  handed_ok : (g : ℕ → Option ℕ) (u v r : ℕ) → v < n → IsAssignment n m fits g → g v ≡ Some r → fits u r ≡ true → IsAssignment n m fits (handed g u v r)
+  pub handed_ok : (g : ℕ → Option ℕ) (u v r : ℕ) → v < n → IsAssignment n m fits g → g v ≡ Some r → fits u r ≡ true → IsAssignment n m fits (handed g u v r)
   handed_ok g u v r lv a ev ef = record {
     in_set = λ w x l e. elim (handed_cases g u v r w x e) [ inl p ↦ subst (λ k. fits k x ≡ true) (sym p.0) (subst (λ y. fits u y ≡ true) (sym p.1) ef) | inr q ↦ a.in_set w x l q.2 ];
     in_range = λ w x l e. elim (handed_cases g u v r w x e) [ inl p ↦ omega (arith, p.1, a.in_range v r lv ev) | inr q ↦ a.in_range w x l q.2 ];
@@ -59,7 +59,7 @@ module _ (n m : ℕ) (fits : ℕ → ℕ → Bool) where
   unfolding handed
   pointwise g u v r w = by_tests (eqb w u) (eqb w v) r (g w)
 
-  handed_size : (g : ℕ → Option ℕ) (u v r : ℕ) → u < n → v < n → u ≢ v → g u ≡ None → g v ≡ Some r → size_of n (handed g u v r) ≡ size_of n g
+  pub handed_size : (g : ℕ → Option ℕ) (u v r : ℕ) → u < n → v < n → u ≢ v → g u ≡ None → g v ≡ Some r → size_of n (handed g u v r) ≡ size_of n g
   handed_size g u v r lu lv d eu ev =
       let b : ℕ → ℕ = λ w. one_if (is_some (g w)) in
       let c : ℕ → ℕ = λ w. cond (eqb w v) 0 (b w) in

@@ -30,7 +30,7 @@ lacks_at n f (Some r) e l rest =
     let h = rest (omega (arith, one, l)) in
     (h.0, omega (arith, h.1), h.2)
 
-lacks : (n : ℕ) (f : ℕ → Option ℕ) → size_of n f < n → (v : ℕ) × (v < n) × (f v ≡ None)
+pub lacks : (n : ℕ) (f : ℕ → Option ℕ) → size_of n f < n → (v : ℕ) × (v < n) × (f v ≡ None)
 lacks zero f l = absurd (omega arith)
 lacks (suc n) f l = lacks_at n f (f n) refl l (lacks n f)
 
@@ -38,7 +38,7 @@ without : (a b : Bool) → (a || b) ≡ true → b ≡ false → a ≡ true
 without true b e d = refl
 without false b e d = impossible b e d
 
-some_any : (n : ℕ) (p : ℕ → Bool) → any_below n p ≡ true → (v : ℕ) × (v < n) × (p v ≡ true)
+pub some_any : (n : ℕ) (p : ℕ → Bool) → any_below n p ≡ true → (v : ℕ) × (v < n) × (p v ≡ true)
 some_any zero p e = let q : false ≡ true = e in cc
 some_any (suc n) p e = elim (bool_cases (p n)) [
   | inl q ↦ (n, omega arith, q)
@@ -48,7 +48,7 @@ some_any (suc n) p e = elim (bool_cases (p n)) [
 pub full_size : (n m : ℕ) (fits : ℕ → ℕ → Bool) (full : IsFull n m fits) → size_of n full.0 ≡ n
 full_size n m fits full = sum_same n (λ v. one_if (is_some (full.0 v))) (λ v. 1) (λ v l. ap (λ q. one_if (is_some q)) (full.2 v l).1) ∙ ones_sum n
 
-part_of : (a b : Bool) → one_if (a && b) ≤ one_if a
+pub part_of : (a b : Bool) → one_if (a && b) ≤ one_if a
 part_of true b = at_most b
 part_of false b = omega arith
 

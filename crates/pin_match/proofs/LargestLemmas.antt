@@ -234,7 +234,7 @@ module _ (n m : ℕ) (fits : ℕ → ℕ → Bool) (v : ℕ) (lv : v < n) where
   pub left_out_is : (is_left_out n m fits v ≡ true) ↔ CanBeLeftOut n m fits v
   left_out_is = (can_be_left_out, left_out_where)
 
-serves_all : (n m : ℕ) (fits : ℕ → ℕ → Bool) → most n m fits ≡ n → IsFull n m fits
+pub serves_all : (n m : ℕ) (fits : ℕ → ℕ → Bool) → most n m fits ≡ n → IsFull n m fits
 serves_all n m fits e =
     let f = most_attained n m fits in
     (f.0, f.1, λ v l. has_some n f.0 (omega (arith, f.2, e)) v l (f.0 v) refl)
@@ -245,7 +245,7 @@ serves_all n m fits e =
         let none : one_if (is_some (f v)) ≡ 0 = ap (λ t. one_if (is_some t)) q in
         absurd (omega (arith, size, sum_lt k v (λ w. one_if (is_some (f w))) (λ w. 1) l (λ w h. at_most (is_some (f w))) (omega (arith, none)), ones_sum k))
 
-full_most : (n m : ℕ) (fits : ℕ → ℕ → Bool) → IsFull n m fits → most n m fits ≡ n
+pub full_most : (n m : ℕ) (fits : ℕ → ℕ → Bool) → IsFull n m fits → most n m fits ≡ n
 full_most n m fits full =
     let f = most_attained n m fits in
     let above = sum_le n (λ v. one_if (is_some (f.0 v))) (λ v. 1) (λ v l. at_most (is_some (f.0 v))) in
@@ -267,7 +267,7 @@ hall_some n m fits never =
     ] in
     ap (λ b. cond b None (Some (set_where (is_left_out n m fits)))) t
 
-true_both : (a b : Bool) → (a ≡ true → b ≡ true) → (b ≡ true → a ≡ true) → a ≡ b
+pub true_both : (a b : Bool) → (a ≡ true → b ≡ true) → (b ≡ true → a ≡ true) → a ≡ b
 true_both true b f g = sym (f refl)
 true_both false true f g = g refl
 true_both false false f g = refl

@@ -1,5 +1,6 @@
 pub mod CountLemmas
 pub mod ExchangeLemmas
+pub mod FreedLemmas
 pub mod HallLemmas
 pub mod LargestLemmas
 pub mod PairLemmas

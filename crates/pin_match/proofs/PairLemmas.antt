@@ -23,7 +23,7 @@ assignment n m fits a k = record {
       cc;
 }
 
-same_or : (o : Option ℕ) (x : ℕ) → (o ≡ Some x) ⊎ (o ≡ Some x → ⊥)
+pub same_or : (o : Option ℕ) (x : ℕ) → (o ≡ Some x) ⊎ (o ≡ Some x → ⊥)
 same_or None x = inr (λ e. let q : ◌≡◌ {A = Option ℕ} None (Some x) = e in cc)
 same_or (Some y) x = elim (split y x) [ inl p ↦ inl (ap Some p) | inr d ↦ inr (λ e. let q : ◌≡◌ {A = Option ℕ} (Some y) (Some x) = e in let p : y ≡ x = cc in d p) ]
 

@@ -1,7 +1,7 @@
 -- Sets by a test.
-use Rattle.std.proofs.Common.{◌≡◌, ℕ, zero, suc, ◌+◌, ◌-◌, ◌*◌, ◌/◌, ◌%◌, ◌^◌, ◌<◌, get_or, Bool, true, false, eqb, pow-suc, refl, sym, ap, ◌∙◌, arith}
+use Rattle.std.proofs.Common.{◌≡◌, ℕ, zero, suc, ◌+◌, ◌-◌, ◌*◌, ◌/◌, ◌%◌, ◌^◌, ◌<◌, ◌≤◌, get_or, Bool, true, false, eqb, pow-suc, refl, sym, ap, ◌∙◌, arith}
 use Rattle.std.specs.Int.{bit_at}
-use Rattle.std.proofs.lemmas.Nat.Bits.{bit_at_cat_high}
+use Rattle.std.proofs.lemmas.Nat.Bits.{bit_at_cat_high, bit_at-zero}
 use Rattle.res_base.specs.Sums.{one_if}
 use Rattle.res_base.specs.VarSet.{in_set, IsWords}
 use Rattle.pin_match.specs.Largest.{word_of, set_where}
@@ -61,3 +61,18 @@ module _ (p : ℕ → Bool) where
       ∙ ap (λ (b : ℕ). eqb b 1) (bit_word 64 (64 * (v / 64)) p (v % 64) (omega arith))
       ∙ bit_is (p (64 * (v / 64) + v % 64))
       ∙ ap p whole
+
+past_words : (p : ℕ → Bool) (k : ℕ) → 3 ≤ k → ◌≡◌ {A = ℕ} (get_or (set_where p).words k 0) 0
+unfolding set_where
+past_words p zero l = absurd (omega (arith, l))
+past_words p (suc zero) l = absurd (omega (arith, l))
+past_words p (suc (suc zero)) l = absurd (omega (arith, l))
+past_words p (suc (suc (suc k))) l = refl
+
+-- no number from 192 on is in
+pub in_words : (p : ℕ → Bool) (v : ℕ) → 192 ≤ v → in_set (set_where p) v ≡ true → ⊥
+unfolding in_set
+in_words p v l e =
+    let none : in_set (set_where p) v ≡ false = ap (λ (w : ℕ). eqb (bit_at w (v % 64)) 1) (past_words p (v / 64) (omega arith)) ∙ ap (λ (b : ℕ). eqb b 1) (bit_at-zero (v % 64)) in
+    let q : true ≡ false = sym e ∙ none in
+    cc

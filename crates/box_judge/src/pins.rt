@@ -1,0 +1,116 @@
+ghost use Rattle.std.specs.Prelude.{◌≡◌, ◌≤◌, IfOk, length};
+ghost use Rattle.search_api.proofs.ShapeLemmas.{shape_prop};
+ghost use Rattle.box_rules.specs.Judged.{IsReady, pin_meaning, pin_verdict};
+ghost use Rattle.box_split.specs.Boxes.{IsBox};
+ghost use Rattle.box_split.specs.BoxIn.{box_in};
+ghost use Rattle.box_judge.specs.Fits.{FitsPins};
+ghost use Rattle.box_judge.specs.Ready.{ready_prop, pin_lawful};
+
+use crate::contest::Contest;
+use box_split::{BoxBuf, is_single};
+use choice_rank::Shape;
+use problem::Problem;
+use res_base::OutOfMemory;
+use search_api::{Class, Judge, Reason, Verdict};
+use std::alloc::Global;
+
+/// Judges the boxes of a problem of pins alone.
+#[derive(Drop)]
+pub struct PinJudge {
+    problem: Problem,
+    ghost ready: { IsReady problem } by { ready_prop problem },
+    ghost pins_only: { problem.first ≡ 0 },
+}
+
+/// Room for what competes in a box.
+#[derive(Drop)]
+pub struct PinRoom {
+    pins: Contest,
+    lines: Contest,
+}
+
+impl PinJudge {
+    /// The judge of a problem that has signals alone.
+    pub fn new(_alloc: Global, p: Problem) -> Result<PinJudge, OutOfMemory>
+        requires { p.first ≡ 0 }
+        ensures { IfOk result (λ j. j.problem ≡ p) }
+    {
+        is_ready(&p);
+        Ok(PinJudge { problem: p })
+    }
+
+    pub fn problem(&self) -> &Problem
+        ensures { result.now ≡ self.now.problem }
+    {
+        &self.problem
+    }
+}
+
+/// That a problem has what a judge keeps of it.
+fn is_ready(p: &Problem)
+    ensures { IsReady p.now }
+{
+    p.parts_agree();
+    p.parts().tables.keeps_rules();
+}
+
+impl Judge for PinJudge {
+    type Scratch = PinRoom;
+
+    ghost meaning = { λ j. pin_meaning j.problem };
+
+    ghost fits = { λ j s. FitsPins j.problem s };
+
+    fn shape(&self) -> &Shape {
+        &self.problem.parts().shape
+    }
+
+    fn scratch(&self, alloc: Global) -> Result<PinRoom, OutOfMemory> {
+        let uses = self.problem.parts().uses.as_slice();
+        few_uses(&self.problem);
+        Ok(PinRoom {
+            pins: Contest::new(alloc, Class::Pins, uses)?,
+            lines: Contest::new(alloc, Class::Exti, uses)?,
+        })
+    }
+
+    fn judge(&self, scratch: &mut PinRoom, b: &BoxBuf) -> Verdict {
+        judge_pins(&self.problem, scratch, b)
+    }
+
+    ghost lawful = { λ j. pin_lawful j.problem j.ready j.pins_only };
+}
+
+/// The verdict of the judge of pins.
+fn judge_pins(p: &Problem, room: &mut PinRoom, b: &BoxBuf) -> Verdict
+    requires ready { IsReady p.now }
+    requires pins_only { p.now.first ≡ 0 }
+    requires fits { FitsPins p.now room.old }
+    requires is_box { IsBox p.now.shape (box_in p.now.shape b.now) }
+    ensures verdict { result ≡ pin_verdict p.now (box_in p.now.shape b.now) }
+    ensures fits { FitsPins p.now room.new }
+{
+    let parts = p.parts();
+    let uses = parts.uses.as_slice();
+    let t = parts.tables.parts();
+    if let Some(vars) = room.pins.hall(t, Class::Pins, uses, 0, &b.lo, &b.hi) {
+        let class = Class::Pins;
+        return Verdict::Bad(Reason::Hall { class, vars });
+    }
+    if let Some(vars) = room.lines.hall(t, Class::Exti, uses, 0, &b.lo, &b.hi) {
+        let class = Class::Exti;
+        return Verdict::Bad(Reason::Hall { class, vars });
+    }
+    if is_single(&parts.shape, b) {
+        Verdict::Legal
+    } else {
+        Verdict::Open
+    }
+}
+
+/// That a problem has few signals.
+fn few_uses(p: &Problem)
+    ensures { length p.now.uses ≤ 160 }
+{
+    p.parts_agree();
+}

@@ -1,0 +1,5 @@
+pub mod ContestLemmas
+pub mod CountLemmas
+pub mod JudgeLemmas
+pub mod LawLemmas
+pub mod MemberLemmas

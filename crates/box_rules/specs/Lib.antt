@@ -1,0 +1,3 @@
+pub mod Contest
+pub mod Inside
+pub mod Judged
