@@ -41,7 +41,7 @@ is_exti_of m e = ap is_exti e
 
 -- uses that fit have resources of their own
 own : (t : TableParts) (class : Class) (us : List PinUse) (i j : ℕ) (d : PinUse) → Fits t us → (class ≡ Exti → is_exti (get_or us i d).mode ≡ true) → (class ≡ Exti → is_exti (get_or us j d).mode ≡ true)
-  → i < j → j < length us → resource_of t class (get_or us i d) ≢ resource_of t class (get_or us j d)
+    → i < j → j < length us → resource_of t class (get_or us i d) ≢ resource_of t class (get_or us j d)
 own t Pins us i j d f p q l k = f.pins i j d l k
 own t Exti us i j d f p q l k = f.lines i j d l k (exti_is (get_or us i d).mode (p refl)) (exti_is (get_or us j d).mode (q refl))
 

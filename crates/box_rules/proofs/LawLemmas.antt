@@ -88,8 +88,8 @@ module _ (p : ProblemParts) (ready : IsReady p) where
     -- one choice without a Hall set of either class: its pins fit
     module _ (single : is_single box ≡ true) (pins : hall_in p.tables Pins (contest p Pins box) ≡ None) (lines : hall_in p.tables Exti (contest p Exti box) ≡ None) where
       apart : (class : Class) → hall_in p.tables class (contest p class box) ≡ None → (i j : ℕ) → i < j → j < length (uses_at p.uses (drop p.first (lows box)))
-        → (class ≡ Exti → is_exti (get_or (uses_at p.uses (drop p.first (lows box))) i nothing).mode ≡ true) → (class ≡ Exti → is_exti (get_or (uses_at p.uses (drop p.first (lows box))) j nothing).mode ≡ true)
-        → resource_of p.tables class (get_or (uses_at p.uses (drop p.first (lows box))) i nothing) ≢ resource_of p.tables class (get_or (uses_at p.uses (drop p.first (lows box))) j nothing)
+          → (class ≡ Exti → is_exti (get_or (uses_at p.uses (drop p.first (lows box))) i nothing).mode ≡ true) → (class ≡ Exti → is_exti (get_or (uses_at p.uses (drop p.first (lows box))) j nothing).mode ≡ true)
+          → resource_of p.tables class (get_or (uses_at p.uses (drop p.first (lows box))) i nothing) ≢ resource_of p.tables class (get_or (uses_at p.uses (drop p.first (lows box))) j nothing)
       apart class none =
           kept_apart p.tables class p.first p.uses (drop p.first box) (drop p.first (lows box)) inside (lies_drop p.first box (lows box) (lows_lie p.shape box is_box)) (single_drop p.first box single)
           (none_full p.tables class p.first p.uses (drop p.first box) few none) ready.alike
@@ -100,9 +100,9 @@ module _ (p : ProblemParts) (ready : IsReady p) where
           sentences_fit p.tables (uses_at p.uses (drop p.first (lows box))) record {
             pins = λ i j d l k e. apart Pins pins i j l k (λ q. other_class q) (λ q. other_class q) (ap (λ (u : PinUse). u.pin) (any_default us i nothing d (omega (arith, l, k))) ∙ e ∙ ap (λ (u : PinUse). u.pin) (any_default us j d nothing k));
             lines = λ i j d l k a b e. apart Exti lines i j l k
-              (λ q. ap (λ (u : PinUse). is_exti u.mode) (any_default us i nothing d (omega (arith, l, k))) ∙ ap is_exti a)
-              (λ q. ap (λ (u : PinUse). is_exti u.mode) (any_default us j nothing d k) ∙ ap is_exti b)
-              (ap (λ (u : PinUse). resource_of p.tables Exti u) (any_default us i nothing d (omega (arith, l, k))) ∙ e ∙ ap (λ (u : PinUse). resource_of p.tables Exti u) (any_default us j d nothing k));
+                (λ q. ap (λ (u : PinUse). is_exti u.mode) (any_default us i nothing d (omega (arith, l, k))) ∙ ap is_exti a)
+                (λ q. ap (λ (u : PinUse). is_exti u.mode) (any_default us j nothing d k) ∙ ap is_exti b)
+                (ap (λ (u : PinUse). resource_of p.tables Exti u) (any_default us i nothing d (omega (arith, l, k))) ∙ e ∙ ap (λ (u : PinUse). resource_of p.tables Exti u) (any_default us j d nothing k));
           }
         where
           any_default : (us : List PinUse) (i : ℕ) (d e : PinUse) → i < length us → get_or us i d ≡ get_or us i e
@@ -130,7 +130,7 @@ module _ (p : ProblemParts) (ready : IsReady p) where
     none_legal = λ reason box b h choice c lies m. shown_none reason box b h choice lies m;
     bad_shows = λ reason box b e. bad_from (hall_in p.tables Pins (contest p Pins box)) (hall_in p.tables Exti (contest p Exti box)) (is_single box) reason (λ r. shows_pins p r box ≡ true) (hall_bad box b Pins) (hall_bad box b Exti) e;
     legal_is_one = λ box b e.
-      let h = legal_from (hall_in p.tables Pins (contest p Pins box)) (hall_in p.tables Exti (contest p Exti box)) (is_single box) e in
-      (h.2, fits_meets pins_only (lows box) (lows_fit box b h.2 h.0 h.1));
+        let h = legal_from (hall_in p.tables Pins (contest p Pins box)) (hall_in p.tables Exti (contest p Exti box)) (is_single box) e in
+        (h.2, fits_meets pins_only (lows box) (lows_fit box b h.2 h.0 h.1));
     open_has_two = λ box b e. open_from (hall_in p.tables Pins (contest p Pins box)) (hall_in p.tables Exti (contest p Exti box)) (is_single box) e;
   }
