@@ -1,5 +1,5 @@
 -- What the judge of pins computes is its verdict.
-use Rattle.std.proofs.Common.{◌≡◌, ℕ, List, [], length, drop, Bool, Option, refl, sym, subst, ap, ◌∙◌}
+use Rattle.std.proofs.Common.{◌≡◌, ℕ, List, length, drop, Bool, Option, sym, subst, ap, ◌∙◌}
 use Rattle.res_base.specs.declared.var_set.VarSet.{VarSet}
 use Rattle.box_split.specs.declared.buffer.BoxBuf.{BoxBuf}
 use Rattle.box_split.specs.BoxIn.{box_in, runs_in}
@@ -40,8 +40,8 @@ module _ (p : ProblemParts) (ready : IsReady p) (first : p.first ≡ 0) (b : Box
       ∙ ap (λ (n : ℕ). hall_in p.tables class (contestants class n p.uses (drop p.first (box_in p.shape b)))) (sym first)
 
   pub judged : (us : List (List PinUse)) (t : TableParts) → us ≡ p.uses → t ≡ p.tables → (x y : Option VarSet)
-    → x ≡ hall_in t Pins (contestants Pins 0 us (runs_in (length us) b.lo b.hi)) → y ≡ hall_in t Exti (contestants Exti 0 us (runs_in (length us) b.lo b.hi))
-    → (s : Bool) → s ≡ is_single (box_in p.shape b) → verdict_from x y s ≡ pin_verdict p (box_in p.shape b)
+      → x ≡ hall_in t Pins (contestants Pins 0 us (runs_in (length us) b.lo b.hi)) → y ≡ hall_in t Exti (contestants Exti 0 us (runs_in (length us) b.lo b.hi))
+      → (s : Bool) → s ≡ is_single (box_in p.shape b) → verdict_from x y s ≡ pin_verdict p (box_in p.shape b)
   judged us t e f x y g h s k =
       ap (λ (o : Option VarSet). verdict_from o y s) (g ∙ hall_same Pins us t e f)
       ∙ ap (λ (o : Option VarSet). verdict_from (hall_in p.tables Pins (contest p Pins (box_in p.shape b))) o s) (h ∙ hall_same Exti us t e f)

@@ -176,7 +176,11 @@ impl Contest {
     ghost use Rattle.box_judge.specs.Room.{IsContest};
 
     /// Room for the signals of a class.
-    pub(crate) fn new(alloc: Global, class: Class, uses: &[Items<PinUse>]) -> Result<Contest, OutOfMemory>
+    pub(crate) fn new(
+        alloc: Global,
+        class: Class,
+        uses: &[Items<PinUse>],
+    ) -> Result<Contest, OutOfMemory>
         requires { length uses.now ≤ 170 }
         ensures { IfOk result (IsContest class uses.now) }
     {

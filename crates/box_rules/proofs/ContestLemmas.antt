@@ -1,6 +1,6 @@
 -- Those that compete in a box, beside the uses of a choice in it.
-use Rattle.std.proofs.Common.{◌≡◌, ◌≢◌, ◌⊎◌, ℕ, zero, suc, ◌+◌, ◌-◌, ◌<◌, ◌≤◌, ◌++◌, ◌==◌, List, [], ◌∷◌, length, get_or, take, drop, Bool, true, false, ◌&&◌, ◌||◌, not, cond, leb, Option, Some, None, inl, inr, refl, sym, subst, ap, ◌∙◌, arith}
-use Rattle.std.specs.Prelude.{slice_get, slice_range, map}
+use Rattle.std.proofs.Common.{◌≡◌, ℕ, zero, suc, ◌+◌, ◌-◌, ◌<◌, ◌≤◌, ◌++◌, ◌==◌, List, [], ◌∷◌, length, get_or, drop, Bool, true, false, ◌&&◌, ◌||◌, not, leb, Option, refl, sym, subst, ap, ◌∙◌, arith}
+use Rattle.std.specs.Prelude.{slice_get, slice_range}
 use Rattle.std.specs.List.{list_all, list_any}
 use Rattle.std.specs.Option.{option_to_list}
 use Rattle.std.proofs.lemmas.Bool.Decides.{nat_tests}
@@ -13,7 +13,7 @@ use Rattle.res_base.specs.Lists.{Each}
 use Rattle.problem.specs.Problem.{HaveValues, are_alike}
 use Rattle.res_model.specs.declared.table.PinUse.{PinUse}
 use Rattle.res_model.specs.declared.table.TableParts.{TableParts}
-use Rattle.res_model.specs.Placement.{is_exti, number_of, uses_at}
+use Rattle.res_model.specs.Placement.{is_exti, uses_at}
 use Rattle.search_api.specs.declared.verdict.Class.{Class}
 use Rattle.search_api.specs.declared.verdict.Class.TheVariants.{Pins, Exti}
 use Rattle.box_rules.specs.Contest.{Contestant, competes, contestants, joined, resource_of, uses_in, variable_at, wants}
@@ -38,9 +38,9 @@ apart_variables class v (us ∷ uss) [] i j l k e = absurd (omega arith)
 apart_variables class v (us ∷ uss) (r ∷ rs) i j l k e = case (competes class us) i j l k e (least_variable class (v + 1) uss rs) (apart_variables class (v + 1) uss rs)
   where
     case : (b : Bool) (i j : ℕ) → i < length (joined b record { variable = v; uses = uses_in us r } (contestants class (v + 1) uss rs)) → j < length (joined b record { variable = v; uses = uses_in us r } (contestants class (v + 1) uss rs))
-      → variable_at (joined b record { variable = v; uses = uses_in us r } (contestants class (v + 1) uss rs)) i ≡ variable_at (joined b record { variable = v; uses = uses_in us r } (contestants class (v + 1) uss rs)) j
-      → ((j : ℕ) → j < length (contestants class (v + 1) uss rs) → v + 1 ≤ variable_at (contestants class (v + 1) uss rs) j)
-      → ((i j : ℕ) → i < length (contestants class (v + 1) uss rs) → j < length (contestants class (v + 1) uss rs) → variable_at (contestants class (v + 1) uss rs) i ≡ variable_at (contestants class (v + 1) uss rs) j → i ≡ j) → i ≡ j
+        → variable_at (joined b record { variable = v; uses = uses_in us r } (contestants class (v + 1) uss rs)) i ≡ variable_at (joined b record { variable = v; uses = uses_in us r } (contestants class (v + 1) uss rs)) j
+        → ((j : ℕ) → j < length (contestants class (v + 1) uss rs) → v + 1 ≤ variable_at (contestants class (v + 1) uss rs) j)
+        → ((i j : ℕ) → i < length (contestants class (v + 1) uss rs) → j < length (contestants class (v + 1) uss rs) → variable_at (contestants class (v + 1) uss rs) i ≡ variable_at (contestants class (v + 1) uss rs) j → i ≡ j) → i ≡ j
     case true zero zero l k e low rest = refl
     case true zero (suc j) l k e low rest = absurd (omega (arith, low j (omega arith), e))
     case true (suc i) zero l k e low rest = absurd (omega (arith, low i (omega arith), e))
@@ -151,18 +151,18 @@ module _ (t : TableParts) (class : Class) (d : PinUse) where
       (case (competes class us) refl i l (chosen (v + 1) uss rs xs h.1 o.2))
     where
       case : (b : Bool) → competes class us ≡ b → (i : ℕ) → i < length (joined b record { variable = v; uses = uses_in us r } (contestants class (v + 1) uss rs))
-        → ((j : ℕ) → j < length (contestants class (v + 1) uss rs) → IsChosen t class (v + 1) (uses_at uss xs) (contestants class (v + 1) uss rs) (is_single rs) d j)
-        → IsChosen t class v (get_or us x d ∷ uses_at uss xs) (joined b record { variable = v; uses = uses_in us r } (contestants class (v + 1) uss rs)) (leb r.high r.low && is_single rs) d i
+          → ((j : ℕ) → j < length (contestants class (v + 1) uss rs) → IsChosen t class (v + 1) (uses_at uss xs) (contestants class (v + 1) uss rs) (is_single rs) d j)
+          → IsChosen t class v (get_or us x d ∷ uses_at uss xs) (joined b record { variable = v; uses = uses_in us r } (contestants class (v + 1) uss rs)) (leb r.high r.low && is_single rs) d i
       case true e zero l rest = record {
         place = 0;
         within = omega arith;
         is = omega arith;
         wanted = one_wanted (resource_of t class) us r.low r.high x d o.0 o.1 h.0.1;
         only = λ s q w.
-          let one : leb r.high r.low ≡ true = (both (leb r.high r.low) (is_single rs) s).0 in
-          let same : r.high ≤ r.low = grind (arith, nat_tests, one) in
-          let at : x ≡ r.low = omega (arith, same, o.0, o.1) in
-          ap (λ (y : ℕ). resource_of t class (get_or us y d)) at ∙ only_of (resource_of t class) us r.low r.high d q h.0.0 same h.0.1 w;
+            let one : leb r.high r.low ≡ true = (both (leb r.high r.low) (is_single rs) s).0 in
+            let same : r.high ≤ r.low = grind (arith, nat_tests, one) in
+            let at : x ≡ r.low = omega (arith, same, o.0, o.1) in
+            ap (λ (y : ℕ). resource_of t class (get_or us y d)) at ∙ only_of (resource_of t class) us r.low r.high d q h.0.0 same h.0.1 w;
         competing = lines_at us x (omega (arith, o.1, h.0.1)) e;
       }
       case true e (suc i) l rest = later v (uses_at uss xs) (get_or us x d) record { variable = v; uses = uses_in us r } (contestants class (v + 1) uss rs) (leb r.high r.low) (is_single rs) i (rest i (omega (arith, l)))
@@ -200,8 +200,8 @@ module _ (t : TableParts) (class : Class) (d : PinUse) where
       case j (subst (λ (ws : List PinUse). j < length ws) first l) (λ q. subst (λ (ws : List PinUse). is_exti (get_or ws j d).mode ≡ true) first (e q)) (placed (v + 1) uss rs xs h.1 o.2 (both (are_alike us) (list_all are_alike uss) a).1)
     where
       case : (j : ℕ) → j < length (get_or us x d ∷ uses_at uss xs) → (class ≡ Exti → is_exti (get_or (get_or us x d ∷ uses_at uss xs) j d).mode ≡ true)
-        → ((k : ℕ) → k < length (uses_at uss xs) → (class ≡ Exti → is_exti (get_or (uses_at uss xs) k d).mode ≡ true) → (i : ℕ) × (i < length (contestants class (v + 1) uss rs)) × (variable_at (contestants class (v + 1) uss rs) i ≡ v + 1 + k))
-        → (i : ℕ) × (i < length (joined (competes class us) record { variable = v; uses = uses_in us r } (contestants class (v + 1) uss rs))) × (variable_at (joined (competes class us) record { variable = v; uses = uses_in us r } (contestants class (v + 1) uss rs)) i ≡ v + j)
+          → ((k : ℕ) → k < length (uses_at uss xs) → (class ≡ Exti → is_exti (get_or (uses_at uss xs) k d).mode ≡ true) → (i : ℕ) × (i < length (contestants class (v + 1) uss rs)) × (variable_at (contestants class (v + 1) uss rs) i ≡ v + 1 + k))
+          → (i : ℕ) × (i < length (joined (competes class us) record { variable = v; uses = uses_in us r } (contestants class (v + 1) uss rs))) × (variable_at (joined (competes class us) record { variable = v; uses = uses_in us r } (contestants class (v + 1) uss rs)) i ≡ v + j)
       case zero l e rest = here v record { variable = v; uses = uses_in us r } (contestants class (v + 1) uss rs) refl (competes class us) (competes_at t class d us x (omega (arith, o.1, h.0.1)) (both (are_alike us) (list_all are_alike uss) a).0 e)
       case (suc k) l e rest = there v record { variable = v; uses = uses_in us r } (contestants class (v + 1) uss rs) (competes class us) k (rest k (omega (arith, l)) e)
 

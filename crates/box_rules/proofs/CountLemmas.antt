@@ -1,5 +1,5 @@
 -- Counting by a map that keeps apart.
-use Rattle.std.proofs.Common.{◌≡◌, ◌≢◌, ℕ, zero, suc, ◌+◌, ◌<◌, ◌≤◌, Bool, true, false, ◌&&◌, ◌||◌, not, eqb, inl, inr, refl, sym, ap, ◌∙◌, arith}
+use Rattle.std.proofs.Common.{◌≡◌, ℕ, zero, suc, ◌<◌, ◌≤◌, Bool, true, false, ◌&&◌, ◌||◌, eqb, inl, inr, refl, sym, ap, ◌∙◌, arith}
 use Rattle.std.proofs.lemmas.Bool.Decides.{nat_tests}
 use Rattle.res_base.specs.Sums.{sum_below, one_if}
 use Rattle.res_base.proofs.SumLemmas.{split, bool_cases, pos_cases, sum_le, sum_same, sum_zero, sum_swap, at_most_one, some_below}
@@ -37,8 +37,8 @@ guarded m false x h = sym (sum_zero m (λ r. 0) (λ k l. refl))
 
 -- what passes p is no more than what passes q, where a map takes each of the first to one of its own of the second
 pub inject :
-  (n m : ℕ) (p q : ℕ → Bool) (h : ℕ → ℕ) → ((v : ℕ) → v < n → p v ≡ true → (h v < m) × (q (h v) ≡ true))
-  → ((v w : ℕ) → v < n → w < n → p v ≡ true → p w ≡ true → h v ≡ h w → v ≡ w) → sum_below n (λ v. one_if (p v)) ≤ sum_below m (λ r. one_if (q r))
+    (n m : ℕ) (p q : ℕ → Bool) (h : ℕ → ℕ) → ((v : ℕ) → v < n → p v ≡ true → (h v < m) × (q (h v) ≡ true))
+    → ((v w : ℕ) → v < n → w < n → p v ≡ true → p w ≡ true → h v ≡ h w → v ≡ w) → sum_below n (λ v. one_if (p v)) ≤ sum_below m (λ r. one_if (q r))
 inject n m p q h into apart =
     let spread = sum_same n (λ v. one_if (p v)) (λ v. sum_below m (λ r. one_if (p v && eqb (h v) r))) (λ v l. guarded m (p v) (h v) (λ e. (into v l e).0)) in
     let swap = sum_swap n m (λ v r. one_if (p v && eqb (h v) r)) in

@@ -1,34 +1,26 @@
 -- That the meaning of a judge is lawful.
-use Rattle.std.proofs.Common.{◌≡◌, ◌≢◌, ℕ, zero, suc, ◌+◌, ◌<◌, ◌≤◌, ◌==◌, List, [], ◌∷◌, length, get_or, drop, Bool, true, false, ◌&&◌, ◌||◌, Option, Some, None, refl, sym, subst, ap, ◌∙◌, arith}
+use Rattle.std.proofs.Common.{◌≡◌, ◌≢◌, ℕ, zero, suc, ◌+◌, ◌<◌, ◌≤◌, ◌==◌, List, [], ◌∷◌, length, get_or, drop, Bool, true, false, ◌||◌, Option, Some, None, refl, subst, ap, ◌∙◌, arith}
 use Rattle.std.specs.Prelude.{is_none}
-use Rattle.std.specs.List.{list_all}
 use Rattle.std.proofs.lemmas.List.{length-drop}
 use Rattle.std.proofs.lemmas.Bool.Decides.{nat_tests}
 use Rattle.res_base.specs.declared.var_set.VarSet.{VarSet}
-use Rattle.res_base.specs.Lists.{Each}
 use Rattle.box_split.specs.Boxes.{Run, IsBox, LiesIn, is_single, lows}
-use Rattle.choice_rank.specs.Choices.{IsShape}
-use Rattle.choice_rank.specs.declared.variable.VarShape.{VarShape}
 use Rattle.pin_rules.proofs.FitLemmas.{sentences_fit}
 use Rattle.problem.specs.declared.parts.ProblemParts.{ProblemParts}
 use Rattle.problem.specs.Meets.{meets}
-use Rattle.problem.specs.Problem.{HaveValues, are_alike}
-use Rattle.res_model.specs.declared.table.Mode.{Mode}
-use Rattle.res_model.specs.declared.table.Mode.TheVariants.{Exti as interrupt}
 use Rattle.res_model.specs.declared.table.PinUse.{PinUse}
 use Rattle.res_model.specs.declared.table.TableParts.{TableParts}
 use Rattle.res_model.specs.Limits.{broken_limit}
 use Rattle.problem.specs.ClockValues.{clock_at}
-use Rattle.res_model.specs.Placement.{Fits, fits, is_exti, uses_at}
+use Rattle.res_model.specs.Placement.{fits, is_exti, uses_at}
 use Rattle.search_api.specs.declared.verdict.Class.{Class}
 use Rattle.search_api.specs.declared.verdict.Class.TheVariants.{Pins, Exti}
 use Rattle.search_api.specs.declared.verdict.Reason.{Reason}
 use Rattle.search_api.specs.declared.verdict.Reason.TheVariants.{Hall, Limit}
-use Rattle.search_api.specs.declared.verdict.Verdict.{Verdict}
 use Rattle.search_api.specs.declared.verdict.Verdict.TheVariants.{Bad, Legal, Open}
 use Rattle.search_api.specs.Meaning.{IsLawful}
 use Rattle.box_rules.specs.Contest.{hall_in, resource_of, shows_hall}
-use Rattle.box_rules.specs.Judged.{HasResources, IsReady, contest, pin_meaning, pin_verdict, shows_pins, verdict_from}
+use Rattle.box_rules.specs.Judged.{HasResources, IsReady, contest, pin_meaning, shows_pins, verdict_from}
 use Rattle.box_rules.specs.Inside.{AreInside}
 use Rattle.box_rules.proofs.ContestLemmas.{as_many_values, box_drop, box_inside, lies_drop, lows_lie, single_drop, use_has}
 use Rattle.box_rules.proofs.CountLemmas.{both}
@@ -88,8 +80,8 @@ module _ (p : ProblemParts) (ready : IsReady p) where
     -- one choice without a Hall set of either class: its pins fit
     module _ (single : is_single box ≡ true) (pins : hall_in p.tables Pins (contest p Pins box) ≡ None) (lines : hall_in p.tables Exti (contest p Exti box) ≡ None) where
       apart : (class : Class) → hall_in p.tables class (contest p class box) ≡ None → (i j : ℕ) → i < j → j < length (uses_at p.uses (drop p.first (lows box)))
-        → (class ≡ Exti → is_exti (get_or (uses_at p.uses (drop p.first (lows box))) i nothing).mode ≡ true) → (class ≡ Exti → is_exti (get_or (uses_at p.uses (drop p.first (lows box))) j nothing).mode ≡ true)
-        → resource_of p.tables class (get_or (uses_at p.uses (drop p.first (lows box))) i nothing) ≢ resource_of p.tables class (get_or (uses_at p.uses (drop p.first (lows box))) j nothing)
+          → (class ≡ Exti → is_exti (get_or (uses_at p.uses (drop p.first (lows box))) i nothing).mode ≡ true) → (class ≡ Exti → is_exti (get_or (uses_at p.uses (drop p.first (lows box))) j nothing).mode ≡ true)
+          → resource_of p.tables class (get_or (uses_at p.uses (drop p.first (lows box))) i nothing) ≢ resource_of p.tables class (get_or (uses_at p.uses (drop p.first (lows box))) j nothing)
       apart class none =
           kept_apart p.tables class p.first p.uses (drop p.first box) (drop p.first (lows box)) inside (lies_drop p.first box (lows box) (lows_lie p.shape box is_box)) (single_drop p.first box single)
           (none_full p.tables class p.first p.uses (drop p.first box) few none) ready.alike
@@ -100,9 +92,9 @@ module _ (p : ProblemParts) (ready : IsReady p) where
           sentences_fit p.tables (uses_at p.uses (drop p.first (lows box))) record {
             pins = λ i j d l k e. apart Pins pins i j l k (λ q. other_class q) (λ q. other_class q) (ap (λ (u : PinUse). u.pin) (any_default us i nothing d (omega (arith, l, k))) ∙ e ∙ ap (λ (u : PinUse). u.pin) (any_default us j d nothing k));
             lines = λ i j d l k a b e. apart Exti lines i j l k
-              (λ q. ap (λ (u : PinUse). is_exti u.mode) (any_default us i nothing d (omega (arith, l, k))) ∙ ap is_exti a)
-              (λ q. ap (λ (u : PinUse). is_exti u.mode) (any_default us j nothing d k) ∙ ap is_exti b)
-              (ap (λ (u : PinUse). resource_of p.tables Exti u) (any_default us i nothing d (omega (arith, l, k))) ∙ e ∙ ap (λ (u : PinUse). resource_of p.tables Exti u) (any_default us j d nothing k));
+                (λ q. ap (λ (u : PinUse). is_exti u.mode) (any_default us i nothing d (omega (arith, l, k))) ∙ ap is_exti a)
+                (λ q. ap (λ (u : PinUse). is_exti u.mode) (any_default us j nothing d k) ∙ ap is_exti b)
+                (ap (λ (u : PinUse). resource_of p.tables Exti u) (any_default us i nothing d (omega (arith, l, k))) ∙ e ∙ ap (λ (u : PinUse). resource_of p.tables Exti u) (any_default us j d nothing k));
           }
         where
           any_default : (us : List PinUse) (i : ℕ) (d e : PinUse) → i < length us → get_or us i d ≡ get_or us i e
@@ -130,7 +122,7 @@ module _ (p : ProblemParts) (ready : IsReady p) where
     none_legal = λ reason box b h choice c lies m. shown_none reason box b h choice lies m;
     bad_shows = λ reason box b e. bad_from (hall_in p.tables Pins (contest p Pins box)) (hall_in p.tables Exti (contest p Exti box)) (is_single box) reason (λ r. shows_pins p r box ≡ true) (hall_bad box b Pins) (hall_bad box b Exti) e;
     legal_is_one = λ box b e.
-      let h = legal_from (hall_in p.tables Pins (contest p Pins box)) (hall_in p.tables Exti (contest p Exti box)) (is_single box) e in
-      (h.2, fits_meets pins_only (lows box) (lows_fit box b h.2 h.0 h.1));
+        let h = legal_from (hall_in p.tables Pins (contest p Pins box)) (hall_in p.tables Exti (contest p Exti box)) (is_single box) e in
+        (h.2, fits_meets pins_only (lows box) (lows_fit box b h.2 h.0 h.1));
     open_has_two = λ box b e. open_from (hall_in p.tables Pins (contest p Pins box)) (hall_in p.tables Exti (contest p Exti box)) (is_single box) e;
   }

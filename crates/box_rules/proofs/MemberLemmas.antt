@@ -1,5 +1,5 @@
 -- Those that compete, by their places.
-use Rattle.std.proofs.Common.{◌≡◌, ◌≢◌, ℕ, zero, suc, ◌+◌, ◌-◌, ◌<◌, ◌≤◌, ◌==◌, ◌++◌, List, [], ◌∷◌, length, get_or, take, drop, Bool, true, false, ◌&&◌, ◌||◌, cond, Option, inl, inr, refl, sym, subst, ap, ◌∙◌, arith}
+use Rattle.std.proofs.Common.{◌≡◌, ℕ, zero, suc, ◌+◌, ◌-◌, ◌<◌, ◌≤◌, ◌==◌, ◌++◌, List, [], ◌∷◌, length, get_or, take, drop, Bool, true, false, ◌&&◌, ◌||◌, cond, Option, inl, inr, refl, sym, subst, ap, ◌∙◌, arith}
 use mathlib.Core.Path.{fun_ext}
 use Rattle.std.specs.Prelude.{option_map}
 use Rattle.std.specs.List.{list_any}
@@ -31,7 +31,7 @@ as_many class v s (us ∷ uss) [] h = absurd h
 as_many class v s (us ∷ uss) (r ∷ rs) h = case (competes class us) (as_many class (v + 1) (s + 1) uss rs h.1)
   where
     case : (b : Bool) → length (contestants class (v + 1) uss rs) ≡ length (members_of class (s + 1) uss)
-      → length (joined b record { variable = v; uses = uses_in us r } (contestants class (v + 1) uss rs)) ≡ length (cond b (s ∷ members_of class (s + 1) uss) (members_of class (s + 1) uss))
+        → length (joined b record { variable = v; uses = uses_in us r } (contestants class (v + 1) uss rs)) ≡ length (cond b (s ∷ members_of class (s + 1) uss) (members_of class (s + 1) uss))
     case true e = ap suc e
     case false e = e
 
@@ -58,8 +58,8 @@ member t class v s (us ∷ uss) [] h i l = absurd h
 member t class v s (us ∷ uss) (r ∷ rs) h i l = case (competes class us) i l (member t class (v + 1) (s + 1) uss rs h.1)
   where
     case : (b : Bool) (i : ℕ) → i < length (joined b record { variable = v; uses = uses_in us r } (contestants class (v + 1) uss rs))
-      → ((j : ℕ) → j < length (contestants class (v + 1) uss rs) → IsMember t class (v + 1) (s + 1) uss rs (contestants class (v + 1) uss rs) (get_or (members_of class (s + 1) uss) j 0) j)
-      → IsMember t class v s (us ∷ uss) (r ∷ rs) (joined b record { variable = v; uses = uses_in us r } (contestants class (v + 1) uss rs)) (get_or (cond b (s ∷ members_of class (s + 1) uss) (members_of class (s + 1) uss)) i 0) i
+        → ((j : ℕ) → j < length (contestants class (v + 1) uss rs) → IsMember t class (v + 1) (s + 1) uss rs (contestants class (v + 1) uss rs) (get_or (members_of class (s + 1) uss) j 0) j)
+        → IsMember t class v s (us ∷ uss) (r ∷ rs) (joined b record { variable = v; uses = uses_in us r } (contestants class (v + 1) uss rs)) (get_or (cond b (s ∷ members_of class (s + 1) uss) (members_of class (s + 1) uss)) i 0) i
     case true zero l rest =
         let none : s - s ≡ 0 = omega arith in
         record {
@@ -141,14 +141,14 @@ module _ (t : TableParts) (class : Class) (uses : List (List PinUse)) (lo hi : L
       let rs = runs_in (length uses) lo hi in
       let many : length (contestants class v uses rs) ≡ length ms = as_many class v 0 uses rs inside ∙ ap length (sym is) in
       all_filled t class ss (contestants class v uses rs) (n ∙ sym many) (λ i k r.
-        let m = member t class v 0 uses rs inside i k in
-        let here : i < length ms = omega (arith, k, many) in
-        let place : get_or (members_of class 0 uses) i 0 - 0 ≡ get_or ms i 0 = omega (arith, ap (λ (l : List ℕ). get_or l i 0) is) in
-        let run = run_at (length uses) lo hi (get_or ms i 0) (member_within ms is i here) l h in
-        inv i here r
-        ∙ ap (λ (q : Run). list_any (λ u. resource_of t class u == r) (uses_in (get_or uses (get_or ms i 0) []) q)) (sym run)
-        ∙ ap (λ (j : ℕ). list_any (λ u. resource_of t class u == r) (uses_in (get_or uses j []) (get_or rs j no_run))) (sym place)
-        ∙ sym (m.wanted r))
+      let m = member t class v 0 uses rs inside i k in
+      let here : i < length ms = omega (arith, k, many) in
+      let place : get_or (members_of class 0 uses) i 0 - 0 ≡ get_or ms i 0 = omega (arith, ap (λ (l : List ℕ). get_or l i 0) is) in
+      let run = run_at (length uses) lo hi (get_or ms i 0) (member_within ms is i here) l h in
+      inv i here r
+      ∙ ap (λ (q : Run). list_any (λ u. resource_of t class u == r) (uses_in (get_or uses (get_or ms i 0) []) q)) (sym run)
+      ∙ ap (λ (j : ℕ). list_any (λ u. resource_of t class u == r) (uses_in (get_or uses j []) (get_or rs j no_run))) (sym place)
+      ∙ sym (m.wanted r))
 
 pub few_members : (class : Class) (s : ℕ) (uses : List (List PinUse)) → length (members_of class s uses) ≤ length uses
 few_members class s [] = omega arith
@@ -183,10 +183,10 @@ module _ (t : TableParts) (class : Class) (first : ℕ) (uses : List (List PinUs
       let cs = contestants class first uses rs in
       let p : ℕ → Bool = λ v. any_below (length cs) (λ i. in_set s i && (variable_at cs i == v)) in
       same_set found (set_where p) words (set_words p) (λ v l.
-        h v
-        ∙ any_same (length ms) (λ i. in_set s i && (first + get_or ms i 0 == v)) (λ i. in_set s i && (variable_at cs i == v)) (λ i k. ap (λ (x : ℕ). in_set s i && (x == v)) (sym (variable_is i k)))
-        ∙ ap (λ (n : ℕ). any_below n (λ i. in_set s i && (variable_at cs i == v))) (sym count)
-        ∙ sym (set_test p v l))
+      h v
+      ∙ any_same (length ms) (λ i. in_set s i && (first + get_or ms i 0 == v)) (λ i. in_set s i && (variable_at cs i == v)) (λ i k. ap (λ (x : ℕ). in_set s i && (x == v)) (sym (variable_is i k)))
+      ∙ ap (λ (n : ℕ). any_below n (λ i. in_set s i && (variable_at cs i == v))) (sym count)
+      ∙ sym (set_test p v l))
 
   -- what the matcher answers, as the answer for those that compete
   pub hall_is : (ss : List VarSet) → fits_in ss ≡ wants t class (contestants class first uses rs) → (o : Option VarSet) → o ≡ hall_of (length ms) 192 (fits_in ss) → (found : Option VarSet) → option_map (named (contestants class first uses rs)) o ≡ found → found ≡ hall_in t class (contestants class first uses rs)

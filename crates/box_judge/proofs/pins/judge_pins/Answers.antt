@@ -1,13 +1,11 @@
-use Rattle.std.proofs.Common.{◌≡◌, ◌∙◌, List, length, Option, Some, None, Bool, true, false, refl, sym, ap, subst}
+use Rattle.std.proofs.Common.{◌≡◌, ◌∙◌, List, length, Some, None, true, false, refl, sym, ap, subst}
 use Rattle.res_base.specs.Lists.{Each}
-use Rattle.res_base.specs.declared.var_set.VarSet.{VarSet}
 use Rattle.box_split.specs.BoxIn.{box_in, runs_in}
 use Rattle.box_split.specs.Boxes.{is_single}
-use Rattle.choice_rank.specs.declared.variable.VarShape.{VarShape}
 use Rattle.problem.specs.declared.parts.ProblemParts.{ProblemParts}
 use Rattle.res_model.specs.declared.table.PinUse.{PinUse}
 use Rattle.res_model.specs.declared.table.TableParts.{TableParts}
-use Rattle.search_api.specs.declared.verdict.Class.TheVariants.{Pins, Exti}
+use Rattle.search_api.specs.declared.verdict.Class.TheVariants.{Exti}
 use Rattle.box_rules.specs.Contest.{contestants, hall_in}
 use Rattle.box_rules.specs.Judged.{HasResources}
 use Rattle.box_judge.proofs.PinLemmas.{inside, judged}
@@ -33,25 +31,25 @@ returns-in-Some-clause-verdict c =
     let us = c.as_slice-uses.result.now in
     let b = c.args.b.now in
     judged c.args.p.now c.requires.ready c.requires.pins_only b c.requires.is_box us c.parts-t.result.now (c.as_slice-uses.ensures ∙ ap (λ (q : ProblemParts). q.uses) c.parts-parts.ensures) (c.parts-t.ensures ∙ ap (λ (q : ProblemParts). q.tables) c.parts-parts.ensures)
-      (Some c.in-Some.vars) (hall_in c.parts-t.result.now Exti (contestants Exti 0 us (runs_in (length us) b.lo b.hi))) c.in-Some.ensures.hall refl (is_single (box_in c.args.p.now.shape b)) refl
+    (Some c.in-Some.vars) (hall_in c.parts-t.result.now Exti (contestants Exti 0 us (runs_in (length us) b.lo b.hi))) c.in-Some.ensures.hall refl (is_single (box_in c.args.p.now.shape b)) refl
 
 pub returns-in-Some-hall-clause-verdict : goal.returns-in-Some-hall-clause-verdict
 returns-in-Some-hall-clause-verdict c =
     let us = c.as_slice-uses.result.now in
     let b = c.args.b.now in
     judged c.args.p.now c.requires.ready c.requires.pins_only b c.requires.is_box us c.parts-t.result.now (c.as_slice-uses.ensures ∙ ap (λ (q : ProblemParts). q.uses) c.parts-parts.ensures) (c.parts-t.ensures ∙ ap (λ (q : ProblemParts). q.tables) c.parts-parts.ensures)
-      None (Some c.in-Some-hall.vars) c.in_default.ensures.hall c.in-Some-hall.ensures.hall (is_single (box_in c.args.p.now.shape b)) refl
+    None (Some c.in-Some-hall.vars) c.in_default.ensures.hall c.in-Some-hall.ensures.hall (is_single (box_in c.args.p.now.shape b)) refl
 
 pub returns-then-is_single-clause-verdict : goal.returns-then-is_single-clause-verdict
 returns-then-is_single-clause-verdict c =
     let us = c.as_slice-uses.result.now in
     let b = c.args.b.now in
     judged c.args.p.now c.requires.ready c.requires.pins_only b c.requires.is_box us c.parts-t.result.now (c.as_slice-uses.ensures ∙ ap (λ (q : ProblemParts). q.uses) c.parts-parts.ensures) (c.parts-t.ensures ∙ ap (λ (q : ProblemParts). q.tables) c.parts-parts.ensures)
-      None None c.in_default.ensures.hall c.in_default-hall.ensures.hall true (sym c.if-is_single.true ∙ c.is_single.ensures ∙ ap (λ (q : ProblemParts). is_single (box_in q.shape b)) c.parts-parts.ensures)
+    None None c.in_default.ensures.hall c.in_default-hall.ensures.hall true (sym c.if-is_single.true ∙ c.is_single.ensures ∙ ap (λ (q : ProblemParts). is_single (box_in q.shape b)) c.parts-parts.ensures)
 
 pub returns-else-is_single-clause-verdict : goal.returns-else-is_single-clause-verdict
 returns-else-is_single-clause-verdict c =
     let us = c.as_slice-uses.result.now in
     let b = c.args.b.now in
     judged c.args.p.now c.requires.ready c.requires.pins_only b c.requires.is_box us c.parts-t.result.now (c.as_slice-uses.ensures ∙ ap (λ (q : ProblemParts). q.uses) c.parts-parts.ensures) (c.parts-t.ensures ∙ ap (λ (q : ProblemParts). q.tables) c.parts-parts.ensures)
-      None None c.in_default.ensures.hall c.in_default-hall.ensures.hall false (sym c.if-is_single.false ∙ c.is_single.ensures ∙ ap (λ (q : ProblemParts). is_single (box_in q.shape b)) c.parts-parts.ensures)
+    None None c.in_default.ensures.hall c.in_default-hall.ensures.hall false (sym c.if-is_single.false ∙ c.is_single.ensures ∙ ap (λ (q : ProblemParts). is_single (box_in q.shape b)) c.parts-parts.ensures)
