@@ -1,5 +1,5 @@
 -- What the judge of pins computes is its verdict.
-use Rattle.std.proofs.Common.{◌≡◌, ℕ, List, [], length, drop, Bool, Option, refl, sym, subst, ap, ◌∙◌}
+use Rattle.std.proofs.Common.{◌≡◌, ℕ, List, length, drop, Bool, Option, sym, subst, ap, ◌∙◌}
 use Rattle.res_base.specs.declared.var_set.VarSet.{VarSet}
 use Rattle.box_split.specs.declared.buffer.BoxBuf.{BoxBuf}
 use Rattle.box_split.specs.BoxIn.{box_in, runs_in}

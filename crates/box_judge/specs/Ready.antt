@@ -1,5 +1,5 @@
 -- For the ghost field in which a judge keeps what it needs of its problem, and its law.
-use Rattle.std.specs.Prelude.{◌≡◌, ℕ, List, [], ◌∷◌, length, drop}
+use Rattle.std.specs.Prelude.{◌≡◌, List, [], ◌∷◌, drop}
 use Rattle.std.specs.Coded.{×_prop, Unit-prop, le_prop}
 use denote.Struct.Props.{props}
 use Rattle.res_base.specs.Lists.{Each}

@@ -1,17 +1,16 @@
 -- What a Hall set shows, and what a box without one has.
-use Rattle.std.proofs.Common.{◌≡◌, ◌≢◌, ◌⊎◌, ℕ, zero, suc, ◌+◌, ◌-◌, ◌<◌, ◌≤◌, ◌==◌, List, [], ◌∷◌, length, get_or, Bool, true, false, ◌&&◌, ◌||◌, not, eqb, Option, Some, None, inl, inr, refl, sym, subst, ap, ◌∙◌, arith}
-use Rattle.std.specs.Prelude.{AllPairs, nat_lt, option_map, is_some}
+use Rattle.std.proofs.Common.{◌≡◌, ◌≢◌, ◌⊎◌, ℕ, ◌+◌, ◌-◌, ◌<◌, ◌≤◌, ◌==◌, List, length, get_or, Bool, true, false, ◌&&◌, not, Option, Some, None, inl, inr, refl, sym, subst, ap, ◌∙◌, arith}
+use Rattle.std.specs.Prelude.{nat_lt, option_map}
 use Rattle.std.specs.List.{list_all}
 use Rattle.std.proofs.lemmas.Bool.Decides.{nat_tests}
 use Rattle.res_base.specs.declared.var_set.VarSet.{VarSet}
-use Rattle.res_base.specs.Lists.{Each}
 use Rattle.res_base.specs.Sums.{sum_below, one_if}
 use Rattle.res_base.specs.VarSet.{in_set}
 use Rattle.res_base.proofs.SumLemmas.{split, le_or, bool_cases, sum_le}
 use Rattle.box_split.specs.Boxes.{Run, LiesIn, is_single}
 use Rattle.pin_match.specs.Assignments.{IsFull}
 use Rattle.pin_match.specs.Hall.{IsHall, any_below, is_wanted}
-use Rattle.pin_match.specs.Largest.{hall_of, set_where}
+use Rattle.pin_match.specs.Largest.{hall_of}
 use Rattle.pin_match.proofs.FreedLemmas.{none_is_full, some_is_hall}
 use Rattle.pin_match.proofs.WordLemmas.{set_test}
 use Rattle.res_model.specs.declared.table.Mode.{Mode}
@@ -19,15 +18,14 @@ use Rattle.res_model.specs.declared.table.Mode.TheVariants.{Exti as interrupt, H
 use Rattle.problem.specs.Problem.{are_alike}
 use Rattle.res_model.specs.declared.table.PinUse.{PinUse}
 use Rattle.res_model.specs.declared.table.TableParts.{TableParts}
-use Rattle.res_model.specs.Placement.{Fits, fits, is_exti, number_of, uses_at}
-use Rattle.pin_rules.proofs.FitLemmas.{fits_sentences, sentences_fit}
+use Rattle.res_model.specs.Placement.{Fits, fits, is_exti, uses_at}
+use Rattle.pin_rules.proofs.FitLemmas.{fits_sentences}
 use Rattle.search_api.specs.declared.verdict.Class.{Class}
 use Rattle.search_api.specs.declared.verdict.Class.TheVariants.{Pins, Exti}
 use Rattle.box_rules.specs.Contest.{Contestant, contestants, hall_in, is_contestant, named, resource_of, resources_of, shows_hall, variable_at, wants}
-use Rattle.box_rules.specs.Judged.{HasResources}
 use Rattle.box_rules.specs.Inside.{AreInside}
 use Rattle.box_rules.proofs.ContestLemmas.{IsChosen, apart_variables, chosen, few_contestants, most_variable, placed}
-use Rattle.box_rules.proofs.CountLemmas.{any_in, and_yes, at_most, both, inject, some_any}
+use Rattle.box_rules.proofs.CountLemmas.{any_in, and_yes, both, inject, some_any}
 
 abbrev pub nothing : PinUse
 nothing = record { pin = 0; mode = Held }

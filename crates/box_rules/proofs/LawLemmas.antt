@@ -1,34 +1,26 @@
 -- That the meaning of a judge is lawful.
-use Rattle.std.proofs.Common.{◌≡◌, ◌≢◌, ℕ, zero, suc, ◌+◌, ◌<◌, ◌≤◌, ◌==◌, List, [], ◌∷◌, length, get_or, drop, Bool, true, false, ◌&&◌, ◌||◌, Option, Some, None, refl, sym, subst, ap, ◌∙◌, arith}
+use Rattle.std.proofs.Common.{◌≡◌, ◌≢◌, ℕ, zero, suc, ◌+◌, ◌<◌, ◌≤◌, ◌==◌, List, [], ◌∷◌, length, get_or, drop, Bool, true, false, ◌||◌, Option, Some, None, refl, subst, ap, ◌∙◌, arith}
 use Rattle.std.specs.Prelude.{is_none}
-use Rattle.std.specs.List.{list_all}
 use Rattle.std.proofs.lemmas.List.{length-drop}
 use Rattle.std.proofs.lemmas.Bool.Decides.{nat_tests}
 use Rattle.res_base.specs.declared.var_set.VarSet.{VarSet}
-use Rattle.res_base.specs.Lists.{Each}
 use Rattle.box_split.specs.Boxes.{Run, IsBox, LiesIn, is_single, lows}
-use Rattle.choice_rank.specs.Choices.{IsShape}
-use Rattle.choice_rank.specs.declared.variable.VarShape.{VarShape}
 use Rattle.pin_rules.proofs.FitLemmas.{sentences_fit}
 use Rattle.problem.specs.declared.parts.ProblemParts.{ProblemParts}
 use Rattle.problem.specs.Meets.{meets}
-use Rattle.problem.specs.Problem.{HaveValues, are_alike}
-use Rattle.res_model.specs.declared.table.Mode.{Mode}
-use Rattle.res_model.specs.declared.table.Mode.TheVariants.{Exti as interrupt}
 use Rattle.res_model.specs.declared.table.PinUse.{PinUse}
 use Rattle.res_model.specs.declared.table.TableParts.{TableParts}
 use Rattle.res_model.specs.Limits.{broken_limit}
 use Rattle.problem.specs.ClockValues.{clock_at}
-use Rattle.res_model.specs.Placement.{Fits, fits, is_exti, uses_at}
+use Rattle.res_model.specs.Placement.{fits, is_exti, uses_at}
 use Rattle.search_api.specs.declared.verdict.Class.{Class}
 use Rattle.search_api.specs.declared.verdict.Class.TheVariants.{Pins, Exti}
 use Rattle.search_api.specs.declared.verdict.Reason.{Reason}
 use Rattle.search_api.specs.declared.verdict.Reason.TheVariants.{Hall, Limit}
-use Rattle.search_api.specs.declared.verdict.Verdict.{Verdict}
 use Rattle.search_api.specs.declared.verdict.Verdict.TheVariants.{Bad, Legal, Open}
 use Rattle.search_api.specs.Meaning.{IsLawful}
 use Rattle.box_rules.specs.Contest.{hall_in, resource_of, shows_hall}
-use Rattle.box_rules.specs.Judged.{HasResources, IsReady, contest, pin_meaning, pin_verdict, shows_pins, verdict_from}
+use Rattle.box_rules.specs.Judged.{HasResources, IsReady, contest, pin_meaning, shows_pins, verdict_from}
 use Rattle.box_rules.specs.Inside.{AreInside}
 use Rattle.box_rules.proofs.ContestLemmas.{as_many_values, box_drop, box_inside, lies_drop, lows_lie, single_drop, use_has}
 use Rattle.box_rules.proofs.CountLemmas.{both}

@@ -1,5 +1,5 @@
 -- Signals in a box that compete for resources: pins, or the lines of external interrupts.
-use Rattle.std.specs.Prelude.{◌≡◌, ℕ, zero, suc, ◌+◌, ◌&&◌, ◌==◌, List, [], ◌∷◌, Bool, true, false, not, nat_lt, length, if◌then◌else◌, Option, Some, None, option_map, slice_range}
+use Rattle.std.specs.Prelude.{ℕ, zero, suc, ◌+◌, ◌&&◌, ◌==◌, List, [], ◌∷◌, Bool, true, false, not, nat_lt, length, if◌then◌else◌, Option, option_map, slice_range}
 use Rattle.std.specs.List.{list_all, list_any}
 use Rattle.res_base.specs.declared.var_set.VarSet.{VarSet}
 use Rattle.res_base.specs.Sums.{sum_below, one_if}

@@ -1,11 +1,11 @@
 -- That the parts of the problem agree.
-use Rattle.std.proofs.Common.{◌≡◌, ◌≢◌, ◌⊎◌, inl, inr, ℕ, zero, suc, ◌+◌, ◌<◌, ◌≤◌, ◌^◌, ◌++◌, List, [], ◌∷◌, length, take, drop, Bool, true, false, ◌&&◌, ◌||◌, not, cond, length-append, refl, sym, subst, ap, ◌∙◌, arith}
-use Rattle.std.specs.Prelude.{filter, find, IfSome, Option, Some, None, Ok, IsSomeAnd, MatchOption, map}
+use Rattle.std.proofs.Common.{◌≡◌, ◌≢◌, ℕ, zero, suc, ◌<◌, ◌≤◌, ◌^◌, ◌++◌, List, [], ◌∷◌, length, take, drop, Bool, true, false, ◌&&◌, ◌||◌, not, cond, length-append, refl, sym, subst, ap, ◌∙◌, arith}
+use Rattle.std.specs.Prelude.{filter, find, IfSome, Option, Some, None, IsSomeAnd, MatchOption}
 use Rattle.std.specs.List.{list_all, list_any}
 use Rattle.std.specs.Str.{bytes_eq}
 use Rattle.res_base.proofs.ListLemmas.{each_map}
 use Rattle.res_base.specs.Lists.{Each}
-use Rattle.choice_rank.specs.Choices.{HasPositions, HasSmallSizes, IsNarrow, IsShape}
+use Rattle.choice_rank.specs.Choices.{HasPositions, HasSmallSizes, IsNarrow}
 use Rattle.choice_rank.specs.declared.variable.VarShape.{VarShape}
 use Rattle.pin_rules.specs.Sizes.{IsSized}
 use Rattle.pin_rules.proofs.SizeLemmas as sizes
@@ -32,7 +32,7 @@ use Rattle.problem.specs.declared.parts.Part.TheVariants.{PinsOnly, Whole}
 use Rattle.problem.specs.declared.parts.ProblemParts.{ProblemParts}
 use Rattle.problem.specs.ClockValues.{clock_domains, clock_values, clock_variables}
 use Rattle.problem.specs.Problem.{are_alike, AreHomesDue, ArePins, HaveValues, IsClock, IsProblem, clock_of, clock_shape, first_of, problem_of, shape_of}
-use Rattle.problem.proofs.ValueLemmas.{AreDomainsIn, AreHomesIn, spans, domains_in, tests_in, homes_in, values_in, in_range, as_many, clock_positions, clock_small, clock_have, clock_length}
+use Rattle.problem.proofs.ValueLemmas.{AreHomesIn, spans, domains_in, tests_in, homes_in, values_in, in_range, as_many, clock_positions, clock_small, clock_have, clock_length}
 
 pub each_sized : (t : TableParts) (ss : List Signal) → IsValid t → Each (IsPlaced t) ss → Each (IsSized t) ss
 each_sized t [] valid h = tt

@@ -1,21 +1,17 @@
 -- How many values the variables have, and within what.
-use Rattle.std.proofs.Common.{◌≡◌, ◌≢◌, ℕ, zero, suc, ◌+◌, ◌-◌, ◌<◌, ◌≤◌, ◌++◌, ◌==◌, List, [], ◌∷◌, length, Bool, true, false, not, cond, append_assoc, length-append, refl, sym, subst, ap, ◌∙◌, inl, inr, arith}
+use Rattle.std.proofs.Common.{◌≡◌, ℕ, zero, suc, ◌+◌, ◌-◌, ◌<◌, ◌≤◌, ◌++◌, ◌==◌, List, [], ◌∷◌, length, Bool, true, false, not, cond, append_assoc, length-append, refl, sym, subst, ap, ◌∙◌, arith}
 use Rattle.std.proofs.lemmas.Bool.Decides.{nat_tests}
 use Rattle.std.proofs.lemmas.List.Filters.{length-filter_both}
-use Rattle.std.specs.Prelude.{filter, slice_index_or, Ok, Result, nat_lt, nat_le, ◌&&◌}
-use Rattle.std.specs.List.{list_any}
+use Rattle.std.specs.Prelude.{filter, slice_index_or, Ok, nat_lt, nat_le, ◌&&◌}
 use Rattle.res_base.specs.Lists.{Each, Member, Pairwise}
 use Rattle.res_base.proofs.ListLemmas.{each_map, each_in}
 use Rattle.choice_rank.specs.Choices.{HasPositions, HasSmallSizes}
-use Rattle.choice_rank.specs.declared.variable.VarShape.{VarShape}
 use Rattle.res_model.specs.Clock.{IsBetween}
 use Rattle.res_model.specs.Project.{domain_tests, all_within, is_among, is_within}
 use Rattle.res_model.specs.Ranges.{AreInRange, values_at}
 use Rattle.res_model.specs.Table.{ahb_dividers, apb_dividers, pll_dividers, known_scales}
 use Rattle.res_model.specs.Valid.{AreDomains, AreAmong, IsRange}
-use Rattle.res_model.specs.declared.fault.ProjectFault.{ProjectFault}
 use Rattle.res_model.specs.declared.project.Home.{Home}
-use Rattle.res_model.specs.declared.table.Domains.{Domains}
 use Rattle.res_model.specs.declared.table.TableParts.{TableParts}
 use Rattle.problem.specs.Problem.{HaveValues}
 use Rattle.problem.specs.ClockValues.{numbers_from, between, clock_domains, is_home, home_first, values_with, clock_values, clock_variables, nowhere}

@@ -1,5 +1,5 @@
 -- The values that a clock variable can have, what they cost, and the choice that positions make.
-use Rattle.std.specs.Prelude.{ℕ, zero, suc, ◌+◌, ◌-◌, ◌++◌, ◌==◌, Bool, not, List, [], ◌∷◌, filter, length, map, if◌then◌else◌, slice_index, slice_index_or}
+use Rattle.std.specs.Prelude.{ℕ, zero, suc, ◌+◌, ◌-◌, ◌++◌, ◌==◌, Bool, not, List, [], ◌∷◌, filter, length, if◌then◌else◌, slice_index, slice_index_or}
 use Rattle.std.specs.List.{list_any}
 use Rattle.choice_rank.specs.declared.variable.Costs.{Costs}
 use Rattle.choice_rank.specs.declared.variable.Costs.TheVariants.{HomeFirst, AllOne}

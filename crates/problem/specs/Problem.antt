@@ -1,5 +1,5 @@
 -- The problem that a table, a project and options make, and what every problem keeps.
-use Rattle.std.specs.Prelude.{◌≡◌, ◌≢◌, ℕ, ◌≤◌, ◌<◌, ◌+◌, ◌++◌, List, [], ◌∷◌, Bool, true, not, ◌||◌, Ok, length, take, drop, Option, slice_get, slice_index, slice_index_or}
+use Rattle.std.specs.Prelude.{◌≡◌, ◌≢◌, ℕ, ◌≤◌, ◌<◌, ◌++◌, List, [], ◌∷◌, Bool, true, not, ◌||◌, Ok, length, take, drop}
 use Rattle.std.specs.List.{list_all, list_any}
 use Rattle.res_base.specs.Lists.{Each}
 use Rattle.choice_rank.specs.declared.variable.VarShape.{VarShape}

@@ -1,8 +1,8 @@
-use Rattle.std.proofs.Common.{◌≡◌, ◌≢◌, ◌+◌, ◌<◌, ◌≤◌, ◌==◌, ℕ, length, get_or, set, refl, sym, ap, subst, ◌∙◌, below_more, arith}
+use Rattle.std.proofs.Common.{◌≢◌, ◌<◌, length, ap, ◌∙◌, below_more, arith}
 use Rattle.std.proofs.lemmas.List.{get_or-set_same, get_or-set_other}
 use Rattle.res_base.specs.VarSet.{in_set}
 use Rattle.pin_match.proofs.SetLemmas.{nothing}
-use Rattle.box_rules.proofs.MemberLemmas.{IsFilled, filled, member_within}
+use Rattle.box_rules.proofs.MemberLemmas.{filled, member_within}
 use Rattle.box_judge.proofs.contest.fill.Goals as goal
 
 pub wanted-requires-clause-place : goal.wanted-requires-clause-place

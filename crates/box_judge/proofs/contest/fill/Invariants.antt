@@ -1,4 +1,4 @@
-use Rattle.std.proofs.Common.{◌≡◌, ◌<◌, ℕ}
+use Rattle.std.proofs.Common.{◌<◌, ℕ}
 use Rattle.box_rules.proofs.MemberLemmas.{IsFilled}
 use Rattle.box_judge.proofs.contest.fill.Given as goal
 

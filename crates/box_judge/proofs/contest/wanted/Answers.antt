@@ -1,4 +1,4 @@
-use Rattle.std.proofs.Common.{◌≡◌, ◌≤◌, ◌<◌, [], length, get_or, subst, arith}
+use Rattle.std.proofs.Common.{◌≤◌, ◌<◌, [], length, get_or, subst}
 use Rattle.box_split.specs.BoxIn.{runs_in}
 use Rattle.box_split.specs.Boxes.{Run}
 use Rattle.box_rules.proofs.MemberLemmas.{inside_at, run_at}

@@ -1,13 +1,11 @@
-use Rattle.std.proofs.Common.{◌≡◌, ◌∙◌, List, length, Option, Some, None, Bool, true, false, refl, sym, ap, subst}
+use Rattle.std.proofs.Common.{◌≡◌, ◌∙◌, List, length, Some, None, true, false, refl, sym, ap, subst}
 use Rattle.res_base.specs.Lists.{Each}
-use Rattle.res_base.specs.declared.var_set.VarSet.{VarSet}
 use Rattle.box_split.specs.BoxIn.{box_in, runs_in}
 use Rattle.box_split.specs.Boxes.{is_single}
-use Rattle.choice_rank.specs.declared.variable.VarShape.{VarShape}
 use Rattle.problem.specs.declared.parts.ProblemParts.{ProblemParts}
 use Rattle.res_model.specs.declared.table.PinUse.{PinUse}
 use Rattle.res_model.specs.declared.table.TableParts.{TableParts}
-use Rattle.search_api.specs.declared.verdict.Class.TheVariants.{Pins, Exti}
+use Rattle.search_api.specs.declared.verdict.Class.TheVariants.{Exti}
 use Rattle.box_rules.specs.Contest.{contestants, hall_in}
 use Rattle.box_rules.specs.Judged.{HasResources}
 use Rattle.box_judge.proofs.PinLemmas.{inside, judged}

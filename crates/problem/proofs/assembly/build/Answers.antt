@@ -1,8 +1,6 @@
-use Rattle.std.proofs.Common.{◌≡◌, ◌∙◌, List, sym, subst}
+use Rattle.std.proofs.Common.{◌∙◌, sym, subst}
 use Rattle.choice_rank.specs.Choices.{IsNarrow}
-use Rattle.choice_rank.specs.declared.variable.VarShape.{VarShape}
-use Rattle.problem.specs.Problem.{IsProblem, problem_of, shape_of}
-use Rattle.problem.specs.declared.parts.ProblemParts.{ProblemParts}
+use Rattle.problem.specs.Problem.{IsProblem, shape_of}
 use Rattle.problem.proofs.AgreeLemmas.{parts_are}
 use Rattle.problem.proofs.assembly.build.Goals as goal
 

@@ -1,4 +1,4 @@
-use Rattle.std.proofs.Common.{◌≡◌, ◌∙◌, ◌++◌, List, ap}
+use Rattle.std.proofs.Common.{◌∙◌, ◌++◌, List, ap}
 use Rattle.choice_rank.specs.declared.variable.VarShape.{VarShape}
 use Rattle.res_model.specs.declared.project.Signal.{Signal}
 use Rattle.res_model.specs.Values.{pin_variables}

@@ -1,7 +1,7 @@
 use Rattle.std.proofs.Common.{◌≡◌, ◌∙◌, ◌≤◌, ◌<◌, ◌^◌, [], length, ℕ, List, sym, subst, ap, arith}
 use Rattle.std.specs.Prelude.{slice_index_or}
 use Rattle.problem.specs.ClockValues.{clock_domains, nowhere}
-use Rattle.problem.proofs.ValueLemmas.{spans, spans_small, domains_in, as_many, few_at, home_at}
+use Rattle.problem.proofs.ValueLemmas.{spans, spans_small, domains_in, few_at, home_at}
 use Rattle.problem.proofs.AgreeLemmas.{fixed_in, ten_domains}
 use Rattle.res_model.specs.declared.project.Home.{Home}
 use Rattle.problem.proofs.assembly.whole_clocks.Goals as goal

@@ -1,4 +1,4 @@
-use Rattle.std.proofs.Common.{◌≡◌, ◌++◌, ◌+◌, ◌-◌, ap, ◌∙◌, List, ℕ, arith}
+use Rattle.std.proofs.Common.{◌++◌, ◌+◌, ◌-◌, ap, ◌∙◌, List, ℕ, arith}
 use Rattle.problem.specs.ClockValues.{numbers_from}
 use Rattle.problem.proofs.ValueLemmas.{row_next}
 use Rattle.problem.proofs.clocks.between.Goals as goal

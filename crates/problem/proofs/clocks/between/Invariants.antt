@@ -1,4 +1,4 @@
-use Rattle.std.proofs.Common.{◌≡◌, ◌++◌, ◌+◌, ◌-◌}
+use Rattle.std.proofs.Common.{◌≡◌, ◌++◌, ◌-◌}
 use Rattle.problem.specs.ClockValues.{between, numbers_from}
 use Rattle.problem.proofs.clocks.between.Given as goal
 

@@ -1,4 +1,4 @@
-use Rattle.std.proofs.Common.{◌≡◌, ◌++◌, drop, map}
+use Rattle.std.proofs.Common.{◌≡◌, ◌++◌, drop}
 use Rattle.res_model.specs.Values.{pin_values}
 use Rattle.problem.proofs.pins.pin_values.Given as goal
 

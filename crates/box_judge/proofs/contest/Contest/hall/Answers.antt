@@ -2,7 +2,7 @@ use Rattle.res_base.specs.declared.var_set.VarSet.{VarSet}
 use Rattle.pin_match.specs.Largest.{hall_of}
 use Rattle.pin_match.specs.Sets.{fits_in}
 use Rattle.pin_match.specs.Sizes.{Sizes}
-use Rattle.std.proofs.Common.{refl, Option, Some, None, ◌≡◌, ◌≤◌, ◌<◌, ◌+◌, ◌∙◌, ℕ, List, length, get_or, sym, subst, ap, arith}
+use Rattle.std.proofs.Common.{refl, Option, Some, None, ◌≡◌, ◌∙◌, ℕ, List, length, sym, ap, arith}
 use Rattle.box_split.specs.BoxIn.{runs_in}
 use Rattle.box_rules.specs.Contest.{contestants, members_of, named}
 use Rattle.box_rules.proofs.MemberLemmas.{few_members, variable_small, named_is, hall_is, whole}

@@ -1,4 +1,4 @@
-use Rattle.std.proofs.Common.{◌≡◌, ◌≤◌, length, sym, ap, arith}
+use Rattle.std.proofs.Common.{length, ap, arith}
 use Rattle.box_rules.proofs.MemberLemmas.{few_members}
 use Rattle.box_judge.proofs.contest.Contest.new.Goals as goal
 
