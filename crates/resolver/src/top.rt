@@ -1,6 +1,7 @@
 //! The top call.
 ghost use Rattle.std.specs.Prelude.{◌≡◌, ◌≢◌, ◌≤◌, ◌++◌, List, [], ◌∷◌, ℕ, Option, Some, None, codes, decimal, map, string_bytes, is_none, true, false, IfOk, IfSome, IfNone};
 ghost use Rattle.res_io.specs.Causes.{NoneFell, Rose};
+ghost use Rattle.res_io.specs.Files.{bytes_in};
 ghost use Rattle.res_model.specs.Words.{command_of};
 ghost use Rattle.resolver.specs.Due.{Says, OfCommand};
 ghost use Rattle.resolver.specs.Owed.{TellsFor, TellsDue, Settled, IsReadFault, IsTooLong, IsToldIfServed, WroteReadFault, WroteTooLong, WroteFront, IsOwn, inputs_of, ReadFaultAt, TooLongAt, IsToldAt, may_wait, waits};
@@ -156,6 +157,10 @@ pub fn run_surely(
 ) -> Option<u8>
     ensures no_read_fault { result ≢ Some 3 }
     ensures no_write_fault { result ≢ Some 8 }
+    ensures none { result ≡ None → waits (command_of (map string_bytes words.now)) ≡ true }
+    ensures some { IfSome result (λ status. status ≢ 9 → waits (command_of (map string_bytes words.now)) ≡ false) }
+    ensures due { IfSome result (λ status. status ≢ 3 → status ≢ 8 → status ≢ 9 →
+        Settled (map string_bytes words.now) (Some (bytes_in inputs.old.files)) None None status) }
 {
     run_plain(alloc, words, inputs, out)
 }
