@@ -1,13 +1,15 @@
 -- What shows a box, and the verdict on it.
-use Rattle.std.specs.Prelude.{◌≡◌, ◌<◌, ◌≤◌, List, Bool, true, false, drop, Option, Some, None}
+use Rattle.std.specs.Prelude.{◌≡◌, ◌<◌, ◌≤◌, ℕ, List, Bool, true, false, drop, take, Option, Some, None}
 use Rattle.std.specs.List.{list_all}
 use Rattle.res_base.specs.declared.var_set.VarSet.{VarSet}
 use Rattle.res_base.specs.Lists.{Each}
-use Rattle.box_split.specs.Boxes.{Run, is_single}
+use Rattle.box_split.specs.Boxes.{Run, highs, is_single, lows}
 use Rattle.problem.specs.declared.parts.ProblemParts.{ProblemParts}
 use Rattle.choice_rank.specs.Choices.{IsShape}
 use Rattle.problem.specs.Meets.{meets}
 use Rattle.problem.specs.Problem.{HaveValues, are_alike}
+use Rattle.res_model.specs.Ranges.{shows_limit, shown_limit}
+use Rattle.res_model.specs.declared.clock.ClockBox.{ClockBox}
 use Rattle.res_model.specs.declared.table.PinUse.{PinUse}
 use Rattle.res_model.specs.declared.table.TableParts.{TableParts}
 use Rattle.res_model.specs.Placement.{number_of}
@@ -45,6 +47,29 @@ pin_meaning p = record { shape = p.shape; legal = meets p; shows = shows_pins p;
 -- each resource of a use is a number below 192
 abbrev pub HasResources : TableParts → PinUse → Type 0
 HasResources t u = (u.pin < 192) × (number_of t u.pin < 192)
+
+-- the runs of the clock variables, which stand before those of the signals
+abbrev pub clock_box : List Run → ClockBox
+clock_box box = record { lo = take 10 (lows box); hi = take 10 (highs box) }
+
+-- in a whole problem a limit shows a box whose clock values leave no room for it
+abbrev pub shows_whole : ProblemParts → Reason → List Run → Bool
+shows_whole p (Hall class vars) box = shows_hall p.tables class (contest p class box) vars
+shows_whole p (Limit k) box = shows_limit p.tables p.facts p.clock (clock_box box) k
+
+-- pins are asked first, then the lines of interrupts, and then the limits
+abbrev pub whole_verdict_from : Option VarSet → Option VarSet → Option ℕ → Bool → Verdict
+whole_verdict_from (Some vars) lines limit single = Bad (Hall Pins vars)
+whole_verdict_from None (Some vars) limit single = Bad (Hall Exti vars)
+whole_verdict_from None None (Some k) single = Bad (Limit k)
+whole_verdict_from None None None true = Legal
+whole_verdict_from None None None false = Open
+
+abbrev pub whole_verdict : ProblemParts → List Run → Verdict
+whole_verdict p box = whole_verdict_from (hall_in p.tables Pins (contest p Pins box)) (hall_in p.tables Exti (contest p Exti box)) (shown_limit p.tables p.facts p.clock (clock_box box)) (is_single box)
+
+abbrev pub whole_meaning : ProblemParts → Meaning
+whole_meaning p = record { shape = p.shape; legal = meets p; shows = shows_whole p; verdict = whole_verdict p }
 
 -- what a judge keeps of its problem
 pub record IsReady (p : ProblemParts) : Type 0 where
