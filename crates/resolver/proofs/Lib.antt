@@ -1,3 +1,2 @@
-pub mod DueLemmas
 pub mod HomeLemmas
-pub mod PlacingLemmas
+pub mod StatusLemmas

@@ -9,7 +9,7 @@ use Rattle.res_model.specs.declared.command.Command.TheVariants.{Pins, Tree, Res
 use Rattle.res_model.specs.declared.command.Opts.{Opts}
 use Rattle.res_model.specs.declared.fault.UsageFault.{UsageFault}
 use Rattle.res_model.specs.Words.{command_of}
-use Rattle.resolver.specs.Due.{Due, OfCommand, OfFiles, Task}
+use Rattle.resolver.specs.Due.{Due, OfCommand, OfFiles, OfThree, Task}
 
 abbrev pub Files : Type 0
 Files = Option (List ℕ → Option (List ℕ))
@@ -44,6 +44,11 @@ TellsFor c (Some files) s x = OfCommand files c s x
 abbrev pub TellsFiles : List ℕ → List ℕ → Opts → Bool → Task → Files → ℕ → List ℕ → Type 0
 TellsFiles tables project opts clocks task None s x = ⊤
 TellsFiles tables project opts clocks task (Some files) s x = OfFiles tables project opts clocks task (files tables) (files project) s x
+
+-- for three inputs
+abbrev pub TellsThree : List ℕ → List ℕ → List ℕ → Opts → Files → ℕ → List ℕ → Type 0
+TellsThree tables project proof opts None s x = ⊤
+TellsThree tables project proof opts (Some files) s x = OfThree tables project proof opts (files tables) (files project) (files proof) s x
 
 -- for words
 abbrev pub TellsDue : List (List ℕ) → Files → ℕ → List ℕ → Type 0

@@ -93,7 +93,7 @@ fn homes_fit(t: &Tables, homes: &[Home; 10])
 }
 
 /// That the HSE's frequency is a u32.
-fn hertz_fit(t: &Tables)
+pub(crate) fn hertz_fit(t: &Tables)
     ensures { t.now.hse_hz < 2 ^ 32 }
 {
     t.keeps_rules();

@@ -1,10 +1,7 @@
 //! The top call: words and inputs in, a status and a text out.
 #![tactic(auto)]
 
-mod answer;
 mod home_tree;
-mod pin_text;
-mod placing;
 mod reading;
 mod refusals;
 mod tasks;

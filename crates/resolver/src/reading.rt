@@ -2,31 +2,31 @@
 ghost use Rattle.std.specs.Prelude.{◌≡◌, ◌≢◌, ◌≤◌, [], ◌∷◌, length, IfOk};
 ghost use Rattle.res_io.specs.Causes.{NoneFell};
 ghost use Rattle.resolver.specs.Due.{OfLines, OfTable, OfContents};
-ghost use Rattle.resolver.specs.Owed.{TellsFiles, IsOfContents, IsOwn, ReadFaultAt, TooLongAt, IsToldAt};
+ghost use Rattle.resolver.specs.Owed.{TellsFiles, TellsThree, IsOfContents, IsOwn, ReadFaultAt, TooLongAt, IsToldAt};
 
-use crate::answer::Answer;
 use crate::refusals::{refused_project, refused_table, refused_text, unread};
-use crate::tasks::Task;
+use crate::tasks::{CheckProof, Task};
 use ioc_project::read_project;
 use ioc_text::{Ioc, read_ioc};
 use mcu_tables::read_tables;
 use res_base::OutOfMemory;
 use res_io::{Inputs, read_all};
-use res_model::Tables;
+use res_model::{Opts, Tables};
+use solver::Answer;
 use std::alloc::Global;
 
 /// What is due for the lines of a project under a table.
 fn of_lines<T: Task>(
     alloc: Global,
     task: &T,
-    tables: &Tables,
+    tables: Tables,
     ioc: &Ioc,
 ) -> Result<Answer, OutOfMemory>
-    ensures lines { IfOk result (λ a. OfLines (T.options task.now) (T.with_clocks task.now) (T.due task.now) tables.now ioc.now a.status a.text.items) }
+    ensures lines { IfOk result (λ a. OfLines (T.options task.now) (T.with_clocks task.now) (T.due task.now) tables ioc.now a.status a.text.items) }
     ensures status { IfOk result (λ a. IsOfContents a.status) }
 {
-    match read_project(alloc, tables, ioc, task.opts(), task.has_clocks()) {
-        Ok(project) => task.answer(alloc, tables, &project),
+    match read_project(alloc, &tables, ioc, task.opts(), task.has_clocks()) {
+        Ok(project) => task.answer(alloc, tables, project),
         Err(fault) => refused_project(alloc, fault),
     }
 }
@@ -35,11 +35,11 @@ fn of_lines<T: Task>(
 fn of_table<T: Task>(
     alloc: Global,
     task: &T,
-    tables: &Tables,
+    tables: Tables,
     project: &[u8],
 ) -> Result<Answer, OutOfMemory>
     requires { length project.now ≤ 67108864 }
-    ensures table { IfOk result (λ a. OfTable (T.options task.now) (T.with_clocks task.now) (T.due task.now) tables.now project.now a.status a.text.items) }
+    ensures table { IfOk result (λ a. OfTable (T.options task.now) (T.with_clocks task.now) (T.due task.now) tables project.now a.status a.text.items) }
     ensures status { IfOk result (λ a. IsOfContents a.status) }
 {
     match read_ioc(alloc, project) {
@@ -60,7 +60,7 @@ fn of_contents<T: Task>(
     ensures status { IfOk result (λ a. IsOfContents a.status) }
 {
     match read_tables(alloc, table) {
-        Ok(tables) => of_table(alloc, task, &tables, project),
+        Ok(tables) => of_table(alloc, task, tables, project),
         Err(fault) => refused_table(alloc, fault),
     }
 }
@@ -90,4 +90,37 @@ pub(crate) fn of_files<I: Inputs, T: Task>(
         Err(fault) => return unread(alloc, fault, project),
     };
     of_contents(alloc, task, tables.as_slice(), lines.as_slice())
+}
+
+/// Reads a table, a project and the text of a refutation, each whole, and answers whether it is accepted.
+pub(crate) fn of_three<I: Inputs>(
+    alloc: Global,
+    inputs: &mut I,
+    table: &str,
+    project: &str,
+    proof: &str,
+    opts: Opts,
+) -> Result<Answer, OutOfMemory>
+    ensures files { I.files inputs.new ≡ I.files inputs.old }
+    ensures later { NoneFell (I.faults inputs.old) (I.faults inputs.new) }
+    ensures status { IfOk result (λ a. IsOwn a.status) }
+    ensures due { IfOk result (λ a. a.status ≢ 3 → TellsThree table.now project.now proof.now opts (I.files inputs.old) a.status a.text.items) }
+    ensures failed { IfOk result (λ a. a.status ≡ 3 → ReadFaultAt (table.now ∷ project.now ∷ proof.now ∷ []) (I.faults inputs.old) (I.faults inputs.new) a.text.items) }
+    ensures too_long { IfOk result (λ a. a.status ≡ 4 → TooLongAt (table.now ∷ project.now ∷ proof.now ∷ []) (I.current inputs.new) (I.taken inputs.new) a.text.items) }
+    ensures told { IfOk result (λ a. IsToldAt (table.now ∷ project.now ∷ proof.now ∷ []) (I.current inputs.new) (I.taken inputs.new) a.status) }
+{
+    let tables = match read_all(alloc, inputs, table) {
+        Ok(bytes) => bytes,
+        Err(fault) => return unread(alloc, fault, table),
+    };
+    let lines = match read_all(alloc, inputs, project) {
+        Ok(bytes) => bytes,
+        Err(fault) => return unread(alloc, fault, project),
+    };
+    let text = match read_all(alloc, inputs, proof) {
+        Ok(bytes) => bytes,
+        Err(fault) => return unread(alloc, fault, proof),
+    };
+    let task = CheckProof::new(opts, text);
+    of_contents(alloc, &task, tables.as_slice(), lines.as_slice())
 }

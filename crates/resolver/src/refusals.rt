@@ -1,12 +1,12 @@
 //! The line and the status of each refusal.
 ghost use Rattle.std.specs.Prelude.{◌≡◌, ◌≢◌, ◌++◌, codes, decimal, IfOk, IsErr};
-ghost use Rattle.resolver.specs.Due.{Says};
+ghost use Rattle.solver.specs.Said.{Says};
 ghost use Rattle.resolver.specs.Refusals.{words_refusal, table_refusal, text_refusal, project_refusal};
 
-use crate::answer::{Answer, counts, names, says};
 use res_base::OutOfMemory;
 use res_io::ReadFault;
 use res_model::{IocFault, ProjectFault, TableFault, UsageFault};
+use solver::{Answer, counts, names, says};
 use std::alloc::Global;
 
 /// What is said of words that have no reading.

@@ -3,17 +3,18 @@ ghost use Rattle.std.specs.Prelude.{◌≡◌, ◌≢◌, ◌≤◌, ◌++◌, L
 ghost use Rattle.res_io.specs.Causes.{NoneFell, Rose};
 ghost use Rattle.res_io.specs.Files.{bytes_in};
 ghost use Rattle.res_model.specs.Words.{command_of};
-ghost use Rattle.resolver.specs.Due.{Says, OfCommand};
+ghost use Rattle.resolver.specs.Due.{OfCommand};
+ghost use Rattle.solver.specs.Said.{Says};
 ghost use Rattle.resolver.specs.Owed.{TellsFor, TellsDue, Settled, IsReadFault, IsTooLong, IsToldIfServed, WroteReadFault, WroteTooLong, WroteFront, IsOwn, inputs_of, ReadFaultAt, TooLongAt, IsToldAt, may_wait, waits};
 
-use crate::answer::{Answer, says};
-use crate::reading::of_files;
+use crate::reading::{of_files, of_three};
 use crate::refusals::refused_words;
-use crate::tasks::{PlacePins, ShowTree};
+use crate::tasks::{PlacePins, ResolveAll, ShowTree};
 use cmd_words::read_words;
 use res_base::OutOfMemory;
 use res_io::{Gate, Inputs, Sink, SureInputs, SureSink, write_all};
 use res_model::Command;
+use solver::{Answer, says};
 use std::alloc::Global;
 use std::sync::Wait;
 use std::thread::Threads;
@@ -49,8 +50,32 @@ fn of_command<I: Inputs>(
             let task = ShowTree::new(opts);
             of_files(alloc, inputs, tables.as_str(), project.as_str(), &task)
         }
-        Command::Resolve { .. } => says(alloc, 11, "not built: resolve"),
-        Command::Check { .. } => says(alloc, 11, "not built: check"),
+        Command::Resolve {
+            tables,
+            project,
+            opts,
+            workers,
+            proof,
+        } => {
+            if workers > 1 {
+                return says(alloc, 11, "not built: workers");
+            }
+            let task = ResolveAll::new(opts, proof);
+            of_files(alloc, inputs, tables.as_str(), project.as_str(), &task)
+        }
+        Command::Check {
+            tables,
+            project,
+            proof,
+            opts,
+        } => of_three(
+            alloc,
+            inputs,
+            tables.as_str(),
+            project.as_str(),
+            proof.as_str(),
+            opts,
+        ),
         Command::Case { .. } => says(alloc, 11, "not built: case"),
     }
 }

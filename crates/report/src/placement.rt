@@ -1,0 +1,76 @@
+//! The text of a placement, with its rank.
+ghost use Rattle.std.specs.Prelude.{◌≡◌, ◌++◌, ◌≤◌, [], ◌∷◌, drop, length, slice_get, IfOk, OnOk};
+ghost use Rattle.choice_rank.specs.Choices.{IsChoice, choices_of, cost_of, rank_of};
+ghost use Rattle.res_model.specs.PinText.{pins_text, rank_line};
+ghost use Rattle.res_model.specs.Placement.{uses_at};
+ghost use Rattle.report.specs.Placed.{placement_text, uses_of};
+
+use crate::lines::{put_pins_text, put_rank_line};
+use problem::Problem;
+use res_base::{Items, OutOfMemory};
+use res_model::PinUse;
+use std::alloc::Global;
+
+fn value_at(values: &Items<PinUse>, at: u16) -> Option<PinUse>
+    ensures { result ≡ slice_get values.now at }
+{
+    values.as_slice().get(at as usize).copied()
+}
+
+/// The values at the positions, one for each signal.
+fn uses_at(alloc: Global, values: &[Items<PinUse>], at: &[u16]) -> Result<Vec<PinUse>, OutOfMemory>
+    ensures { IfOk result (λ us. us.items ≡ uses_at values.now at.now) }
+{
+    let count = values.len().min(at.len());
+    let mut found = Vec::with_capacity(alloc, count)?;
+    for k in 0..count {
+        if let Some(value) = value_at(&values[k], at[k]) {
+            found.push(value)?;
+        }
+    }
+    Ok(found)
+}
+
+/// The uses of a choice, one for each signal.
+fn uses_of(alloc: Global, p: &Problem, at: &[u16]) -> Result<Vec<PinUse>, OutOfMemory>
+    requires { IsChoice p.now.shape at.now }
+    ensures uses { IfOk result (λ us. us.items ≡ uses_of p.now at.now) }
+    ensures as_many { IfOk result (λ us. length us.items ≡ length p.now.signals) }
+{
+    p.parts_agree();
+    let parts = p.parts();
+    let first = parts.first as usize;
+    uses_at(alloc, parts.uses.as_slice(), &at[first..])
+}
+
+/// Appends the rank line of a choice.
+fn put_rank(alloc: Global, out: &mut Vec<u8>, p: &Problem, at: &[u16]) -> Result<(), OutOfMemory>
+    requires { IsChoice p.now.shape at.now }
+    ensures { OnOk result (out.new.items ≡ out.old.items ++ rank_line (rank_of p.now.shape at.now) (cost_of p.now.shape at.now) (choices_of p.now.shape)) }
+{
+    let shape = &p.parts().shape;
+    let _vars = shape.vars();
+    put_rank_line(alloc, out, shape.rank(at), shape.cost(at), shape.choices())?;
+    Ok(())
+}
+
+/// The text of a placement: its rank line, the number of signals, and a line for each of them with its pin, mode and
+/// state.
+#[tactic(auto, unfolding(crate::specs::Placed::placement_text))]
+pub fn placement_text(alloc: Global, p: &Problem, at: &[u16]) -> Result<Vec<u8>, OutOfMemory>
+    requires { IsChoice p.now.shape at.now }
+    ensures { IfOk result (λ x. x.items ≡ placement_text p.now at.now) }
+{
+    let uses = uses_of(alloc, p, at)?;
+    let mut out = Vec::new(alloc);
+    put_rank(alloc, &mut out, p, at)?;
+    let parts = p.parts();
+    put_pins_text(
+        alloc,
+        &mut out,
+        parts.tables.parts(),
+        parts.signals.as_slice(),
+        uses.as_slice(),
+    )?;
+    Ok(out)
+}

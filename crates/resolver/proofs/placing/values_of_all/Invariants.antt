@@ -1,6 +1,0 @@
-use Rattle.std.proofs.Common.{◌≡◌, ◌++◌, drop, map}
-use Rattle.res_model.specs.Values.{pin_values}
-use Rattle.resolver.proofs.placing.values_of_all.Given as goal
-
-abbrev pub invariant-loop-signal : goal.invariant-loop-signal
-invariant-loop-signal l = l.found.items ++ pin_values l.t (drop l.signal-index l.signals) ≡ pin_values l.t l.signals

@@ -1,0 +1,3 @@
+pub mod Owed
+pub mod Refutation
+pub mod Said
