@@ -1,5 +1,5 @@
 -- The uses of a choice: where a loop over them ends, and how many they are.
-use Rattle.std.proofs.Common.{◌≡◌, ◌⊎◌, ℕ, zero, suc, ◌<◌, ◌≤◌, List, [], ◌∷◌, ◌++◌, length, drop, min, inl, inr, length-append, refl, sym, ap, ◌∙◌, arith}
+use Rattle.std.proofs.Common.{◌≡◌, ◌⊎◌, ℕ, zero, suc, ◌<◌, ◌≤◌, List, [], ◌∷◌, ◌++◌, length, drop, take, min, inl, inr, length-append, refl, sym, ap, ◌∙◌, arith}
 use Rattle.std.proofs.lemmas.Bool.Decides.{nat_tests}
 use Rattle.std.proofs.lemmas.List.{drop_all}
 use Rattle.std.specs.Prelude.{slice_get}
@@ -57,3 +57,19 @@ length_choice [] [] choice = refl
 length_choice [] (a ∷ at) choice = absurd choice
 length_choice (v ∷ vs) [] choice = absurd choice
 length_choice (v ∷ vs) (a ∷ at) choice = ap suc (length_choice vs at choice.1)
+
+same_length : {X : Type 0} (vs : List VarShape) (xss : List (List X)) → HaveValues vs xss → length vs ≡ length xss
+same_length [] [] h = refl
+same_length [] (xs ∷ xss) h = absurd h
+same_length (v ∷ vs) [] h = absurd h
+same_length (v ∷ vs) (xs ∷ xss) h = ap suc (same_length vs xss h.1)
+
+take_few : {X : Type 0} (n : ℕ) (xs : List X) → length (take n xs) ≡ n → n ≤ length xs
+take_few zero xs e = omega arith
+take_few (suc n) [] e = absurd (omega (arith, e))
+take_few (suc n) (x ∷ xs) e = let h : n ≤ length xs = take_few n xs (omega (arith, e)) in omega (arith, h)
+
+pub first_fits : (vs : List VarShape) (first : ℕ) (clock : List (List ℕ)) (at : List ℕ) → first ≡ length clock → HaveValues (take first vs) clock → IsChoice vs at → first ≤ length at
+first_fits vs first clock at is sizes choice =
+    let few : first ≤ length vs = take_few first vs (same_length (take first vs) clock sizes ∙ sym is) in
+    omega (arith, few, length_choice vs at choice)

@@ -31,16 +31,31 @@ fn uses_at(alloc: Global, values: &[Items<PinUse>], at: &[u16]) -> Result<Vec<Pi
     Ok(found)
 }
 
+/// That a choice has a position for each clock variable, and a use for each signal.
+fn has_places(p: &Problem, at: &[u16])
+    requires { IsChoice p.now.shape at.now }
+    ensures first { p.now.first ≤ length at.now }
+    ensures as_many { length (uses_of p.now at.now) ≡ length p.now.signals }
+{
+    p.parts_agree();
+}
+
+/// What stands from a place on.
+fn from_place(at: &[u16], first: u16) -> &[u16]
+    requires { first ≤ length at.now }
+    ensures { result.now ≡ drop first at.now }
+{
+    &at[first as usize..]
+}
+
 /// The uses of a choice, one for each signal.
 fn uses_of(alloc: Global, p: &Problem, at: &[u16]) -> Result<Vec<PinUse>, OutOfMemory>
     requires { IsChoice p.now.shape at.now }
     ensures uses { IfOk result (λ us. us.items ≡ uses_of p.now at.now) }
-    ensures as_many { IfOk result (λ us. length us.items ≡ length p.now.signals) }
 {
-    p.parts_agree();
+    has_places(p, at);
     let parts = p.parts();
-    let first = parts.first as usize;
-    uses_at(alloc, parts.uses.as_slice(), &at[first..])
+    uses_at(alloc, parts.uses.as_slice(), from_place(at, parts.first))
 }
 
 /// Appends the rank line of a choice.
@@ -61,6 +76,7 @@ pub fn placement_text(alloc: Global, p: &Problem, at: &[u16]) -> Result<Vec<u8>,
     requires { IsChoice p.now.shape at.now }
     ensures { IfOk result (λ x. x.items ≡ placement_text p.now at.now) }
 {
+    has_places(p, at);
     let uses = uses_of(alloc, p, at)?;
     let mut out = Vec::new(alloc);
     put_rank(alloc, &mut out, p, at)?;

@@ -2,17 +2,9 @@
 use Rattle.std.specs.Prelude.{◌≡◌, ℕ, List, [], ◌++◌, Bool, true, false, Option, Some, None, Ok, Err, codes, decimal, map}
 use Rattle.choice_rank.specs.Choices.{IsNarrow, IsFirstWide, rank_of}
 use Rattle.choice_rank.specs.Least.{IsLeast, NoneLegal}
-use Rattle.box_rules.specs.Judged.{whole_meaning}
 use Rattle.problem.specs.declared.parts.ProblemParts.{ProblemParts}
 use Rattle.problem.specs.Meets.{meets}
-use Rattle.refutation.specs.declared.node.Node.{Node}
-use Rattle.refutation.specs.declared.node.ProofFault.TheVariants as fault
-use Rattle.refutation.specs.Forms.{form_of}
-use Rattle.refutation.specs.Reading.{proof_of}
-use Rattle.refutation.specs.Trees.{IsAccepted}
 use Rattle.report.specs.Placed.{placement_text}
-use Rattle.report.specs.Reported.{report_text}
-use Rattle.solver.specs.Refutation.{IsRefutation}
 use Rattle.solver.specs.Said.{Says}
 
 -- what is due where a task is asked of a problem: that ranks would not fit, by the first variable with which they do not,
@@ -25,25 +17,3 @@ pub data OfProblem (p : ProblemParts) (task : ℕ → List ℕ → Type 0) (s : 
 pub data OfPins (p : ProblemParts) (s : ℕ) (x : List ℕ) : Type 0 where
   placed : (c : List ℕ) → IsLeast p.shape (meets p) c → s ≡ 0 → x ≡ placement_text p c → OfPins p s x
   unplaced : NoneLegal p.shape (meets p) → Says s x 1 (codes "no choice") → OfPins p s x
-
--- what stands behind the report: the refutation of all that is below the choice, where it is asked for
-abbrev pub IsMore : Bool → ProblemParts → List ℕ → List ℕ → Type 0
-IsMore false p c more = more ≡ []
-IsMore true p c more = IsRefutation (whole_meaning p) (Some (rank_of p.shape c)) more
-
--- the report of the least choice, or the refutation of all choices
-pub data OfWhole (proof : Bool) (p : ProblemParts) (s : ℕ) (x : List ℕ) : Type 0 where
-  solved : (c more : List ℕ) → IsLeast p.shape (meets p) c → IsMore proof p c more → s ≡ 0 → x ≡ report_text p c ++ more → OfWhole proof p s x
-  refuted : NoneLegal p.shape (meets p) → IsRefutation (whole_meaning p) None x → s ≡ 1 → OfWhole proof p s x
-
--- what is said of a refutation that is accepted
-abbrev pub accepted_text : Option ℕ → List ℕ
-accepted_text None = codes "accepted: no choice"
-accepted_text (Some rank) = codes "accepted: least rank " ++ decimal rank
-
--- the line at which the text is none of a refutation, the first node that breaks its rule, or that it is accepted
-pub data OfProof (text : List ℕ) (p : ProblemParts) (s : ℕ) (x : List ℕ) : Type 0 where
-  unread : (line : ℕ) → proof_of text ≡ Err (fault.Line line) → Says s x 10 (codes "proof: line " ++ decimal line) → OfProof text p s x
-  rejected : (bound : Option ℕ) (nodes : List Node) (node : ℕ) → proof_of text ≡ Ok (bound, map form_of nodes) → fault_at (whole_meaning p) bound nodes ≡ Some node
-      → Says s x 10 (codes "proof: node " ++ decimal node) → OfProof text p s x
-  accepted : (bound : Option ℕ) (nodes : List Node) → proof_of text ≡ Ok (bound, map form_of nodes) → IsAccepted (whole_meaning p) bound nodes → Says s x 0 (accepted_text bound) → OfProof text p s x

@@ -21,9 +21,11 @@ fn choice_of(alloc: Global, shape: &Shape, rank: u64) -> Result<Vec<u16>, OutOfM
 
 /// The choice of a rank that is the least.
 pub(crate) fn least_of(alloc: Global, shape: &Shape, rank: u64) -> Result<Vec<u16>, OutOfMemory>
-    ensures { IfOk result (λ at. (legal : List ℕ → Bool) → IsAnswer shape.now legal (Some rank) → IsLeast shape.now legal at.items) }
+    ensures choice { IfOk result (λ at. IsChoice shape.now at.items) }
+    ensures least { IfOk result (λ at. (legal : List ℕ → Bool) → IsAnswer shape.now legal (Some rank) → IsLeast shape.now legal at.items) }
 {
-    choice_of(alloc, shape, rank)
+    let at = choice_of(alloc, shape, rank)?;
+    Ok(at)
 }
 
 /// What is said of a problem whose ranks would not fit.

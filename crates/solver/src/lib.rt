@@ -4,7 +4,7 @@
 mod answer;
 mod least;
 mod pins;
-mod refutation;
+mod proof_text;
 
 pub use answer::{Answer, counts, names, says};
 pub use pins::place;
