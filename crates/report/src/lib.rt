@@ -1,7 +1,10 @@
 //! The texts of a choice: its rank, a line for each signal, the clocks, and the accesses that set it up.
 #![tactic(auto)]
 
+mod clocks;
 mod lines;
 mod placement;
+mod reports;
 
 pub use placement::placement_text;
+pub use reports::report_text;
