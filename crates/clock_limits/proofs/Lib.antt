@@ -2,6 +2,7 @@ pub mod ChoiceLemmas
 pub mod FairLemmas
 pub mod FractionLemmas
 pub mod LeastLemmas
+pub mod NumberLemmas
 pub mod RangeLemmas
 pub mod RoomLemmas
 pub mod SayLemmas

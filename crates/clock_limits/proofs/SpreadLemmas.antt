@@ -1,5 +1,5 @@
 -- The least and the greatest of values.
-use Rattle.std.proofs.Common.{◌≡◌, ℕ, zero, suc, ◌<◌, ◌≤◌, min, max, List, [], ◌∷◌, length, map, take, drop, get_or, ◌⊎◌, ⊎_elim, refl, subst, arith}
+use Rattle.std.proofs.Common.{◌≡◌, ℕ, zero, suc, ◌<◌, ◌≤◌, min, max, List, [], ◌∷◌, length, take, drop, get_or, ◌⊎◌, ⊎_elim, refl, subst, arith}
 use Rattle.res_base.specs.Lists.{Each, Member}
 use Rattle.res_model.specs.Clock.{IsBetween}
 use Rattle.res_model.specs.Ranges.{least_from, least_of, greatest_from, greatest_of}
@@ -108,7 +108,8 @@ greatest_end v i vs some past e =
     let last : greatest_from v [] ≡ greatest_from (get_or vs 0 0) vs = subst (λ (xs : List ℕ). greatest_from v xs ≡ greatest_from (get_or vs 0 0) vs) (drop_past i vs past) e in
     cc (greatest_whole vs some)
 
-pub map_at : {X : Type 0} (f : X → List ℕ) (xs : List X) (k : ℕ) (d : X) → k < length xs → get_or (map f xs) k [] ≡ f (get_or xs k d)
-map_at f [] k d inside = absurd (omega arith)
-map_at f (x ∷ xs) zero d inside = refl
-map_at f (x ∷ xs) (suc k) d inside = map_at f xs k d (omega arith)
+-- within a list it does not matter what stands past its end
+pub same_at : {X : Type 0} (xs : List X) (k : ℕ) (d e : X) → k < length xs → get_or xs k d ≡ get_or xs k e
+same_at [] k d e inside = absurd (omega arith)
+same_at (x ∷ xs) zero d e inside = refl
+same_at (x ∷ xs) (suc k) d e inside = same_at xs k d e (omega arith)

@@ -1,19 +1,19 @@
 //! The limits that are shown for a box.
-ghost use Rattle.std.specs.Prelude.{◌≡◌, map};
+ghost use Rattle.std.specs.Prelude.{◌≡◌};
 ghost use Rattle.std.specs.List.{list_any};
 ghost use Rattle.res_model.specs.Clock.{AreFacts};
 ghost use Rattle.res_model.specs.Power.{is_within_max, scale_limit};
-ghost use Rattle.res_model.specs.Ranges.{AreInRange, IsClockBox, sure_pll, sure_hse, overlaps, has_wish, limits_over, shown_limit};
+ghost use Rattle.res_model.specs.Ranges.{AreInRange, IsClockBox, sure_pll, sure_hse, overlaps, has_wish, limits_over, shown_limit, shows_limit};
 ghost use Rattle.clock_limits.specs.Fair.{IsFair};
 ghost use Rattle.clock_limits.specs.Numbered.{numbered};
 ghost use Rattle.clock_limits.specs.Room.{room_by};
 ghost use Rattle.clock_limits.specs.Runs.{seen};
 
-use crate::numbers::{MHZ_48, first_broken, is_fed, where_so};
+use crate::numbers::{MHZ_48, first_broken, is_broken, is_fed, where_so};
 use crate::ranges::{Ranges, has};
 use crate::runs::{Runs, all_are};
 use power_flash::{is_covered, is_within_scale};
-use res_base::Ratio;
+use res_base::{Items, Ratio};
 use res_model::{ClockBox, Facts, Range, TableParts, Tables};
 
 /// Whether the PLL is used whatever is chosen.
@@ -90,11 +90,23 @@ fn room_in(t: &TableParts, f: &Facts, r: &Runs) -> [bool; 14]
 /// The least number among limits 3 to 16 that is shown for the box: its ranges leave no room for it.
 ///
 /// `values` has the values of the ten clock variables in their order, with HSI 0, HSE 1 and PLL 2.
-pub fn range_broken(t: &Tables, f: &Facts, values: &[Vec<u16>], b: &ClockBox) -> Option<u8>
+pub fn range_broken(t: &Tables, f: &Facts, values: &[Items<u16>], b: &ClockBox) -> Option<u8>
     requires facts { AreFacts f.now }
-    requires in_range { AreInRange (map (λ v. v.items) values.now) }
-    requires is_box { IsClockBox (map (λ v. v.items) values.now) b.now }
-    ensures { result ≡ shown_limit t.now f.now (map (λ v. v.items) values.now) b.now }
+    requires in_range { AreInRange values.now }
+    requires is_box { IsClockBox values.now b.now }
+    ensures { result ≡ shown_limit t.now f.now values.now b.now }
 {
     first_broken(&room_in(t.parts(), f, &Runs::of(values, b)))
+}
+
+/// Whether the limit of this number is shown for the box; a number below 3 or above 16 is none.
+///
+/// `values` is as in `range_broken`.
+pub fn is_shown(t: &Tables, f: &Facts, values: &[Items<u16>], b: &ClockBox, limit: u8) -> bool
+    requires facts { AreFacts f.now }
+    requires in_range { AreInRange values.now }
+    requires is_box { IsClockBox values.now b.now }
+    ensures { result ≡ shows_limit t.now f.now values.now b.now limit }
+{
+    is_broken(&room_in(t.parts(), f, &Runs::of(values, b)), limit)
 }

@@ -8,7 +8,7 @@ mod numbers;
 mod ranges;
 mod runs;
 
-pub use boxes::range_broken;
+pub use boxes::{is_shown, range_broken};
 pub use choices::broken;
 pub use laws::{
     broken_is_least, one_choice_is_exact, shown_alone_is_broken, shown_is_broken, shown_is_least,

@@ -1,6 +1,6 @@
 //! Tests of one limit, and the first of all limits that fails.
-ghost use Rattle.std.specs.Prelude.{◌≡◌, ◌≤◌, length};
-ghost use Rattle.res_model.specs.Limits.{where_so, are_within, is_equal, is_as_wished, is_fed, hse_bounds, first_broken};
+ghost use Rattle.std.specs.Prelude.{◌≡◌, ◌≤◌, not, length};
+ghost use Rattle.res_model.specs.Limits.{where_so, are_within, is_equal, is_as_wished, is_fed, is_met, hse_bounds, first_broken};
 ghost use Rattle.res_base.specs.Fraction.{whole};
 ghost use Rattle.clock_limits.specs.Numbered.{numbered};
 
@@ -68,4 +68,17 @@ pub(crate) fn first_broken(met: &[bool]) -> Option<u8>
         }
     }
     None
+}
+
+/// Whether the test of the limit of this number failed, where the first has number 3.
+pub(crate) fn is_broken(met: &[bool], limit: u8) -> bool
+    requires { length met.now ≤ 14 }
+    ensures { result ≡ not (is_met limit (numbered 3 met.now)) }
+{
+    for k in 0..met.len() {
+        if 3 + k as u8 == limit {
+            return !met[k];
+        }
+    }
+    false
 }

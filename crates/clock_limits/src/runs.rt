@@ -1,9 +1,10 @@
 //! The values at the positions of a box.
-ghost use Rattle.std.specs.Prelude.{◌≡◌, ◌<◌, ◌==◌, length, map};
+ghost use Rattle.std.specs.Prelude.{◌≡◌, ◌<◌, ◌==◌, length};
 ghost use Rattle.std.specs.List.{list_all};
 ghost use Rattle.res_model.specs.Ranges.{IsRun, IsClockBox, run_of, allowed, least_of, greatest_of};
 ghost use Rattle.clock_limits.specs.Runs.{seen};
 
+use res_base::Items;
 use res_model::ClockBox;
 
 /// For each clock variable its values in a box.
@@ -22,11 +23,11 @@ pub(crate) struct Runs<'v> {
 }
 
 /// The values of the clock variable of this number.
-fn run<'v>(values: &'v [Vec<u16>], b: &ClockBox, k: usize) -> &'v [u16]
+fn run<'v>(values: &'v [Items<u16>], b: &ClockBox, k: usize) -> &'v [u16]
     requires place { k < 10 }
     requires ten { length values.now ≡ 10 }
-    requires inside { IsRun (map (λ v. v.items) values.now) b.now k }
-    ensures { result.now ≡ run_of (map (λ v. v.items) values.now) b.now k }
+    requires inside { IsRun values.now b.now k }
+    ensures { result.now ≡ run_of values.now b.now k }
 {
     let low = b.lo[k] as usize;
     let high = b.hi[k] as usize;
@@ -35,9 +36,9 @@ fn run<'v>(values: &'v [Vec<u16>], b: &ClockBox, k: usize) -> &'v [u16]
 
 impl<'v> Runs<'v> {
     /// The values of each clock variable.
-    pub(crate) fn of(values: &'v [Vec<u16>], b: &ClockBox) -> Runs<'v>
-        requires { IsClockBox (map (λ v. v.items) values.now) b.now }
-        ensures { seen result ≡ allowed (map (λ v. v.items) values.now) b.now }
+    pub(crate) fn of(values: &'v [Items<u16>], b: &ClockBox) -> Runs<'v>
+        requires { IsClockBox values.now b.now }
+        ensures { seen result ≡ allowed values.now b.now }
     {
         Runs {
             src: run(values, b, 0),
