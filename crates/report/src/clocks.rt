@@ -25,7 +25,7 @@ fn wait_at(t: &Tables, f: &Facts, c: &ClockChoice) -> Option<u8>
 }
 
 /// The clocks of a choice of a whole problem.
-fn clock_in(p: &Problem, at: &[u16]) -> ClockChoice
+pub(crate) fn clock_in(p: &Problem, at: &[u16]) -> ClockChoice
     requires choice { IsChoice p.now.shape at.now }
     requires whole { p.now.first ≢ 0 }
     ensures clock { result ≡ clock_at p.now.clock at.now }
