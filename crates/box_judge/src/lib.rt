@@ -1,7 +1,11 @@
 //! The judges of boxes of a problem.
 #![tactic(auto)]
 
+mod clocks;
 mod contest;
+mod halls;
 mod pins;
 
-pub use pins::{PinJudge, PinRoom};
+pub use clocks::PinClockJudge;
+pub use halls::PinRoom;
+pub use pins::PinJudge;
