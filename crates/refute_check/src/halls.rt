@@ -1,0 +1,140 @@
+//! Whether variables are more than the resources that they have together.
+ghost use Rattle.std.specs.Prelude.{◌≡◌, ◌≤◌, ◌<◌, ◌+◌, ◌&&◌, ◌||◌, not, ℕ, List, [], length, drop, slice_index, slice_index_or};
+ghost use Rattle.std.specs.List.{list_all};
+ghost use Rattle.res_base.specs.Lists.{Each};
+ghost use Rattle.res_base.specs.VarSet.{in_set};
+ghost use Rattle.box_split.specs.Boxes.{IsBox};
+ghost use Rattle.box_split.specs.BoxIn.{box_in, runs_in};
+ghost use Rattle.pin_match.specs.Hall.{any_below};
+ghost use Rattle.res_model.specs.Placement.{is_exti, number_of};
+ghost use Rattle.box_rules.specs.Contest.{competes, resource_of, shows_hall, uses_in};
+ghost use Rattle.box_rules.specs.Inside.{AreInside};
+ghost use Rattle.box_rules.specs.Judged.{contest, HasResources, IsReady};
+ghost use Rattle.refute_check.specs.Counting.{has_resource, is_of_class, is_used};
+
+use box_split::BoxBuf;
+use problem::Problem;
+use res_base::{Items, VarSet};
+use res_model::{Mode, PinUse, TableParts};
+use search_api::Class;
+
+/// Whether a set of variables shows a box: all are signals of the class, and they are more than their resources.
+pub(crate) fn shows_hall(p: &Problem, class: Class, vars: &VarSet, b: &BoxBuf) -> bool
+    requires { IsBox p.now.shape (box_in p.now.shape b.now) }
+    ensures { result ≡ shows_hall p.now.tables class (contest p.now class (box_in p.now.shape b.now)) vars.now }
+{
+    is_ready(p);
+    let parts = p.parts();
+    let uses = parts.uses.as_slice();
+    let first = parts.first as usize;
+    let t = parts.tables.parts();
+    are_of_class(class, first, uses, vars)
+        && resources_of(t, class, vars, first, uses, &b.lo[first..], &b.hi[first..]).len() < vars.len()
+}
+
+/// That a problem has what the counts rest on.
+fn is_ready(p: &Problem)
+    ensures { IsReady p.now }
+{
+    p.parts_agree();
+    p.parts().tables.keeps_rules();
+}
+
+fn is_exti(mode: Mode) -> bool
+    ensures { result ≡ is_exti mode }
+{
+    matches!(mode, Mode::Exti)
+}
+
+/// Whether a signal with these values is of the class.
+fn competes(class: Class, us: &[PinUse]) -> bool
+    ensures { result ≡ competes class us.now }
+{
+    match class {
+        Class::Pins => true,
+        Class::Exti => us.iter().all(|u| is_exti(u.mode)),
+    }
+}
+
+/// Whether a variable is that of a signal of the class.
+fn is_of_class(class: Class, first: usize, uses: &[Items<PinUse>], v: usize) -> bool
+    ensures { result ≡ is_of_class class first uses.now v }
+{
+    first <= v && v - first < uses.len() && competes(class, uses[v - first].as_slice())
+}
+
+/// Whether all members are variables of signals of the class.
+fn are_of_class(class: Class, first: usize, uses: &[Items<PinUse>], vars: &VarSet) -> bool
+    ensures { result ≡ not (any_below 192 (λ v. in_set vars.now v && not (is_of_class class first uses.now v))) }
+{
+    for v in 0..192u8 {
+        if vars.has(v) && !is_of_class(class, first, uses, usize::from(v)) {
+            return false;
+        }
+    }
+    true
+}
+
+fn number_of(t: &TableParts, pin: u8) -> u8
+    ensures { result ≡ number_of t.now pin }
+{
+    match t.pins.as_slice().get(pin as usize) {
+        Some(pin) => pin.number,
+        None => 0,
+    }
+}
+
+fn resource_of(t: &TableParts, class: Class, u: PinUse) -> u8
+    ensures { result ≡ resource_of t.now class u }
+{
+    match class {
+        Class::Pins => u.pin,
+        Class::Exti => number_of(t, u.pin),
+    }
+}
+
+/// Adds the resources of some uses.
+fn add_resources(found: &mut VarSet, t: &TableParts, class: Class, us: &[PinUse])
+    requires { Each (HasResources t.now) us.now }
+    ensures { (r : ℕ) → in_set found.new r ≡ (in_set found.old r || has_resource t.now class us.now r) }
+{
+    for u in us {
+        found.put(resource_of(t, class, *u));
+    }
+}
+
+/// The values of a signal at its positions in a box.
+fn uses_in(us: &[PinUse], low: u16, high: u16) -> &[PinUse]
+    requires ordered { low ≤ high }
+    requires inside { high < length us.now }
+    ensures { result.now ≡ uses_in us.now record { low = low; high = high } }
+{
+    &us[low as usize..high as usize + 1]
+}
+
+/// The resources, in a box, of those signals of the class whose variables are in a set.
+fn resources_of(
+    t: &TableParts,
+    class: Class,
+    vars: &VarSet,
+    first: usize,
+    uses: &[Items<PinUse>],
+    lo: &[u16],
+    hi: &[u16],
+) -> VarSet
+    requires few { first + length uses.now ≤ 192 }
+    requires low { length uses.now ≤ length lo.now }
+    requires high { length uses.now ≤ length hi.now }
+    requires inside { AreInside uses.now (runs_in (length uses.now) lo.now hi.now) }
+    requires resources { Each (Each (HasResources t.now)) uses.now }
+    ensures { (r : ℕ) → in_set result r ≡ is_used t.now class vars.now first uses.now (runs_in (length uses.now) lo.now hi.now) r }
+{
+    let mut found = VarSet::new();
+    for s in 0..uses.len() {
+        let us = uses[s].as_slice();
+        if competes(class, us) && vars.has((first + s) as u8) {
+            add_resources(&mut found, t, class, uses_in(us, lo[s], hi[s]));
+        }
+    }
+    found
+}
