@@ -1,6 +1,7 @@
 -- The walk over the nodes, a node at a time.
 use Rattle.std.proofs.Common.{◌≡◌, ℕ, ◌+◌, ◌<◌, ◌≤◌, List, [], ◌∷◌, ◌++◌, length, get_or, drop, Bool, true, false, Option, Some, None, refl, sym, ap, subst, ◌∙◌, arith}
-use Rattle.std.proofs.lemmas.List.{drop_all, drop_more}
+use Rattle.std.specs.Prelude.{reverse}
+use Rattle.std.proofs.lemmas.List.{drop_all, drop_more, length-map, length-reverse}
 use Rattle.res_base.specs.Lists.{Each}
 use Rattle.box_split.specs.declared.buffer.BoxBuf.{BoxBuf}
 use Rattle.box_split.specs.BoxIn.{box_in}
@@ -52,12 +53,18 @@ module _ (m : Meaning) (bound : Option ℕ) (all : List Node) where
           ∙ sym (kept_on m bound i (get_or all i d) (drop (i + 1) all) (box_in m.shape b) (boxes_of m.shape rest) h) ∙ here;
     }
 
-  pub ended : (i : ℕ) → length all ≤ i → StandsAt i [] → None ≡ fault_from m bound 0 all (whole m.shape ∷ [])
+  pub ended : (i : ℕ) (stack : List BoxBuf) → length all ≤ i → length stack ≡ 0 → StandsAt i stack → None ≡ fault_from m bound 0 all (whole m.shape ∷ [])
   unfolding fault_from
-  ended i l s = sym (ap (λ (ns : List Node). fault_from m bound i ns []) (drop_all i all l)) ∙ s.same
+  ended i [] l e s = sym (ap (λ (ns : List Node). fault_from m bound i ns []) (drop_all i all l)) ∙ s.same
+  ended i (b ∷ bs) l e s = absurd (omega arith)
 
-  pub ended_early : (i : ℕ) (stack : List BoxBuf) → length all ≤ i → (box : List Run) (boxes : List (List Run)) → boxes_of m.shape stack ≡ box ∷ boxes → StandsAt i stack → Some i ≡ fault_from m bound 0 all (whole m.shape ∷ [])
+  early : (i : ℕ) (boxes : List (List Run)) → length all ≤ i → 0 < length boxes → fault_from m bound i (drop i all) boxes ≡ fault_from m bound 0 all (whole m.shape ∷ []) → Some i ≡ fault_from m bound 0 all (whole m.shape ∷ [])
   unfolding fault_from
-  ended_early i stack l box boxes e s =
-      sym (ap (λ (ns : List Node). fault_from m bound i ns (box ∷ boxes)) (drop_all i all l))
-      ∙ sym (ap (fault_from m bound i (drop i all)) e) ∙ s.same
+  early i [] l n e = absurd (omega arith)
+  early i (box ∷ boxes) l n e = sym (ap (λ (ns : List Node). fault_from m bound i ns (box ∷ boxes)) (drop_all i all l)) ∙ e
+
+  pub ended_early : (i : ℕ) (stack : List BoxBuf) → length all ≤ i → i ≤ length all → 0 < length stack → StandsAt i stack → Some (length all) ≡ fault_from m bound 0 all (whole m.shape ∷ [])
+  ended_early i stack l u n s =
+      let many : length (boxes_of m.shape stack) ≡ length stack = length-map (reverse stack) (λ b. box_in m.shape b) ∙ length-reverse stack in
+      let last : length all ≡ i = omega arith in
+      ap (λ (k : ℕ). Some k) last ∙ early i (boxes_of m.shape stack) l (omega (arith, n, many)) s.same

@@ -1,9 +1,10 @@
 -- What a set of variables has in a box, signal by signal.
-use Rattle.std.specs.Prelude.{ℕ, ◌+◌, ◌==◌, ◌&&◌, ◌||◌, List, [], ◌∷◌, Bool, true, false}
+use Rattle.std.specs.Prelude.{ℕ, ◌+◌, ◌==◌, ◌&&◌, ◌||◌, List, [], ◌∷◌, Bool, true, false, not}
 use Rattle.std.specs.List.{list_any}
 use Rattle.res_base.specs.declared.var_set.VarSet.{VarSet}
 use Rattle.res_base.specs.VarSet.{in_set}
 use Rattle.box_split.specs.Boxes.{Run}
+use Rattle.pin_match.specs.Hall.{any_below}
 use Rattle.res_model.specs.declared.table.PinUse.{PinUse}
 use Rattle.res_model.specs.declared.table.TableParts.{TableParts}
 use Rattle.search_api.specs.declared.verdict.Class.{Class}
@@ -13,6 +14,10 @@ use Rattle.box_rules.specs.Contest.{competes, resource_of, uses_in}
 abbrev pub is_of_class : Class → ℕ → List (List PinUse) → ℕ → Bool
 is_of_class class first [] v = false
 is_of_class class first (us ∷ uss) v = (competes class us && (first == v)) || is_of_class class (first + 1) uss v
+
+-- all members are
+unfoldable pub are_of_class : Class → ℕ → List (List PinUse) → VarSet → Bool
+are_of_class class first uses vars = not (any_below 192 (λ v. in_set vars v && not (is_of_class class first uses v)))
 
 -- the resource is that of a use
 abbrev pub has_resource : TableParts → Class → List PinUse → ℕ → Bool

@@ -3,7 +3,7 @@ ghost use Rattle.std.specs.List.{list_any};
 ghost use Rattle.box_split.specs.Boxes.{whole};
 ghost use Rattle.box_rules.specs.Judged.{whole_meaning};
 ghost use Rattle.refutation.specs.Trees.{IsAccepted};
-ghost use Rattle.refute_check.specs.Faults.{fault_at, fault_from, is_witness_leaf, IsRejected};
+ghost use Rattle.refute_check.specs.Faults.{fault_at, fault_from, fault_of_witness, is_witness_leaf, IsRejected};
 
 use crate::rules::{is_witness_leaf, keeps_rule};
 use crate::stack::{all_due, push_parts};
@@ -44,10 +44,24 @@ fn fault_at(
     ensures { IfOk result (λ found. found ≡ fault_at (whole_meaning p.now) bound nodes.now) }
 {
     let broken = first_broken(alloc, p, bound, nodes)?;
-    if broken.is_none() && bound.is_some() && !has_witness(nodes) {
-        return Ok(Some(nodes.len() as u32));
+    match broken {
+        Some(node) => Ok(Some(node)),
+        None => Ok(fault_of_witness(bound, nodes)),
     }
-    Ok(broken)
+}
+
+/// The number of nodes, where a bound has no witness.
+fn fault_of_witness(bound: Option<u64>, nodes: &[Node]) -> Option<u32>
+    requires { length nodes.now < 2 ^ 32 }
+    ensures { result ≡ fault_of_witness bound nodes.now }
+{
+    if bound.is_none() {
+        return None;
+    }
+    if has_witness(nodes) {
+        return None;
+    }
+    Some(nodes.len() as u32)
 }
 
 fn has_witness(nodes: &[Node]) -> bool

@@ -1,16 +1,15 @@
 //! Whether variables are more than the resources that they have together.
-ghost use Rattle.std.specs.Prelude.{◌≡◌, ◌≤◌, ◌<◌, ◌+◌, ◌&&◌, ◌||◌, not, ℕ, List, [], length, drop, slice_index, slice_index_or};
+ghost use Rattle.std.specs.Prelude.{◌≡◌, ◌≤◌, ◌<◌, ◌+◌, ◌&&◌, ◌||◌, ℕ, List, [], length, drop, slice_index, slice_index_or};
 ghost use Rattle.std.specs.List.{list_all};
 ghost use Rattle.res_base.specs.Lists.{Each};
 ghost use Rattle.res_base.specs.VarSet.{in_set};
 ghost use Rattle.box_split.specs.Boxes.{IsBox};
 ghost use Rattle.box_split.specs.BoxIn.{box_in, runs_in};
-ghost use Rattle.pin_match.specs.Hall.{any_below};
 ghost use Rattle.res_model.specs.Placement.{is_exti, number_of};
 ghost use Rattle.box_rules.specs.Contest.{competes, resource_of, shows_hall, uses_in};
 ghost use Rattle.box_rules.specs.Inside.{AreInside};
 ghost use Rattle.box_rules.specs.Judged.{contest, HasResources, IsReady};
-ghost use Rattle.refute_check.specs.Counting.{has_resource, is_of_class, is_used};
+ghost use Rattle.refute_check.specs.Counting.{are_of_class, has_resource, is_of_class, is_used};
 
 use box_split::BoxBuf;
 use problem::Problem;
@@ -28,8 +27,11 @@ pub(crate) fn shows_hall(p: &Problem, class: Class, vars: &VarSet, b: &BoxBuf) -
     let uses = parts.uses.as_slice();
     let first = parts.first as usize;
     let t = parts.tables.parts();
-    are_of_class(class, first, uses, vars)
-        && resources_of(t, class, vars, first, uses, &b.lo[first..], &b.hi[first..]).len() < vars.len()
+    if !are_of_class(class, first, uses, vars) {
+        return false;
+    }
+    let found = resources_of(t, class, vars, first, uses, &b.lo[first..], &b.hi[first..]);
+    found.len() < vars.len()
 }
 
 /// That a problem has what the counts rest on.
@@ -46,29 +48,46 @@ fn is_exti(mode: Mode) -> bool
     matches!(mode, Mode::Exti)
 }
 
+fn are_lines(us: &[PinUse]) -> bool
+    ensures { result ≡ list_all (λ u. is_exti u.mode) us.now }
+{
+    us.iter().all(|u| is_exti(u.mode))
+}
+
 /// Whether a signal with these values is of the class.
 fn competes(class: Class, us: &[PinUse]) -> bool
     ensures { result ≡ competes class us.now }
 {
     match class {
         Class::Pins => true,
-        Class::Exti => us.iter().all(|u| is_exti(u.mode)),
+        Class::Exti => are_lines(us),
     }
+}
+
+/// The values of the signal at a place.
+fn uses_of(uses: &[Items<PinUse>], place: usize) -> &[PinUse]
+    requires { place < length uses.now }
+    ensures { result.now ≡ slice_index_or uses.now place [] }
+{
+    uses[place].as_slice()
 }
 
 /// Whether a variable is that of a signal of the class.
 fn is_of_class(class: Class, first: usize, uses: &[Items<PinUse>], v: usize) -> bool
     ensures { result ≡ is_of_class class first uses.now v }
 {
-    first <= v && v - first < uses.len() && competes(class, uses[v - first].as_slice())
+    if v < first || v - first >= uses.len() {
+        return false;
+    }
+    competes(class, uses_of(uses, v - first))
 }
 
 /// Whether all members are variables of signals of the class.
 fn are_of_class(class: Class, first: usize, uses: &[Items<PinUse>], vars: &VarSet) -> bool
-    ensures { result ≡ not (any_below 192 (λ v. in_set vars.now v && not (is_of_class class first uses.now v))) }
+    ensures { result ≡ are_of_class class first uses.now vars.now }
 {
     for v in 0..192u8 {
-        if vars.has(v) && !is_of_class(class, first, uses, usize::from(v)) {
+        if vars.has(v) && !is_of_class(class, first, uses, v as usize) {
             return false;
         }
     }
@@ -112,6 +131,14 @@ fn uses_in(us: &[PinUse], low: u16, high: u16) -> &[PinUse]
     &us[low as usize..high as usize + 1]
 }
 
+/// Whether a signal with these values is of the class, and its variable is in a set.
+fn is_in(class: Class, us: &[PinUse], vars: &VarSet, v: u8) -> bool
+    requires { v < 192 }
+    ensures { result ≡ (competes class us.now && in_set vars.now v) }
+{
+    competes(class, us) && vars.has(v)
+}
+
 /// The resources, in a box, of those signals of the class whose variables are in a set.
 fn resources_of(
     t: &TableParts,
@@ -131,8 +158,8 @@ fn resources_of(
 {
     let mut found = VarSet::new();
     for s in 0..uses.len() {
-        let us = uses[s].as_slice();
-        if competes(class, us) && vars.has((first + s) as u8) {
+        let us = uses_of(uses, s);
+        if is_in(class, us, vars, (first + s) as u8) {
             add_resources(&mut found, t, class, uses_in(us, lo[s], hi[s]));
         }
     }

@@ -4,6 +4,7 @@
 mod checker;
 mod halls;
 mod laws;
+mod limits;
 mod rules;
 mod stack;
 

@@ -1,5 +1,5 @@
 //! What a node has to say of its box.
-ghost use Rattle.std.specs.Prelude.{◌≡◌, ◌≢◌, ◌<◌};
+ghost use Rattle.std.specs.Prelude.{◌≡◌, ◌≢◌};
 ghost use Rattle.choice_rank.specs.Choices.{IsChoice};
 ghost use Rattle.problem.specs.Meets.{meets};
 ghost use Rattle.box_split.specs.Boxes.{IsBox, low_of};
@@ -9,6 +9,7 @@ ghost use Rattle.refutation.specs.Outcomes.{is_below};
 ghost use Rattle.refute_check.specs.Faults.{is_witness, is_witness_leaf, keeps_rule};
 
 use crate::halls::shows_hall;
+use crate::limits::shows_limit;
 use crate::stack::can_split;
 use box_split::{BoxBuf, is_single, low, lows};
 use problem::Problem;
@@ -37,7 +38,7 @@ fn shows(p: &Problem, reason: Reason, b: &BoxBuf) -> bool
 {
     match reason {
         Reason::Hall { class, vars } => shows_hall(p, class, &vars, b),
-        Reason::Limit(limit) => false,
+        Reason::Limit(limit) => shows_limit(p, limit, b),
     }
 }
 

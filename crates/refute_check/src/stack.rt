@@ -29,7 +29,10 @@ pub(crate) fn can_split(s: &Shape, b: &BoxBuf, variable: u16, after: u16) -> boo
     ensures { result ≡ can_split variable after (box_in s.now b.now) }
 {
     let v = variable as usize;
-    v < s.vars().len() && b.lo[v] <= after && after < b.hi[v]
+    if v >= s.vars().len() {
+        return false;
+    }
+    b.lo[v] <= after && after < b.hi[v]
 }
 
 /// The lower part of a box that is split, which ends at the position.
@@ -50,6 +53,7 @@ fn high_part(s: &Shape, b: &BoxBuf, variable: u16, after: u16) -> BoxBuf
     ensures { box_in s.now result ≡ high_part variable after (box_in s.now b.now) }
 {
     let _vars = s.vars();
+    let _high = b.hi[variable as usize];
     let mut part = *b;
     part.lo[variable as usize] = after + 1;
     part
