@@ -31,7 +31,9 @@ use Rattle.problem.specs.declared.parts.Part.{Part}
 use Rattle.problem.specs.declared.parts.Part.TheVariants.{PinsOnly, Whole}
 use Rattle.problem.specs.declared.parts.ProblemParts.{ProblemParts}
 use Rattle.problem.specs.ClockValues.{clock_domains, clock_values, clock_variables}
-use Rattle.problem.specs.Problem.{are_alike, AreHomesDue, ArePins, HaveValues, IsClock, IsProblem, clock_of, clock_shape, first_of, problem_of, shape_of}
+use Rattle.problem.specs.Problem.{are_alike, AreFrom, AreHomesDue, ArePins, HaveValues, IsClock, IsProblem, clock_of, clock_shape, first_of, problem_of, shape_of}
+use Rattle.problem.proofs.DomainLemmas.{homes_due, values_from_domains}
+use Rattle.problem.proofs.UseLemmas.{all_functions, each_find, rows_each, values_each}
 use Rattle.problem.proofs.ValueLemmas.{AreHomesIn, spans, domains_in, tests_in, homes_in, values_in, in_range, as_many, clock_positions, clock_small, clock_have, clock_length}
 
 pub each_sized : (t : TableParts) (ss : List Signal) → IsValid t → Each (IsPlaced t) ss → Each (IsSized t) ss
@@ -83,6 +85,7 @@ record Clocks (t : TableParts) (p : Project) (opts : Opts) (part : Part) : Type 
   small : HasSmallSizes (clock_shape t p opts part)
   have : HaveValues (clock_shape t p opts part) (clock_of t p opts part)
   clock : first_of part ≢ 0 → IsClock (clock_of t p opts part)
+  domains : first_of part ≢ 0 → AreFrom (clock_of t p opts part) (clock_domains t)
 
 -- the homes of fixed clock variables lie within the widest bounds
 pub fixed_in : (t : TableParts) (p : Project) (opts : Opts) → IsValid t → length p.clock ≡ 10 → AreHomesDue t p opts Whole → fixes_clock opts.free ≡ true → AreHomesIn spans p.clock
@@ -101,6 +104,7 @@ clocks_are t p opts PinsOnly valid ten due = record {
   small = tt;
   have = tt;
   clock = λ n. absurd (n refl);
+  domains = λ n. absurd (n refl);
 }
 clocks_are t p opts Whole valid ten due =
     let fixed = fixes_clock opts.free in
@@ -116,48 +120,22 @@ clocks_are t p opts Whole valid ten due =
       small = clock_small fixed spans ds p.clock vs;
       have = clock_have fixed ds p.clock;
       clock = λ n. record { ten = many; in_range = in_range (clock_values fixed ds p.clock) vs };
+      domains = λ n. values_from_domains fixed ds p.clock (ten ∙ sym (ten_domains t)) (λ e. homes_due t p.clock ten (due e));
     }
 
 -- ---- pins of the values
-
-uses_filter : (P : PinUse → Type 0) (p : PinUse → Bool) (d : List PinUse) → Each P d → Each P (filter p d)
-uses_filter P p [] h = tt
-uses_filter P p (x ∷ xs) h = case (p x) (uses_filter P p xs h.1)
-  where
-    case : (b : Bool) → Each P (filter p xs) → Each P (cond b (x ∷ filter p xs) (filter p xs))
-    case true rest = (h.0, rest)
-    case false rest = rest
-
-uses_append : (P : PinUse → Type 0) (xs ys : List PinUse) → Each P xs → Each P ys → Each P (xs ++ ys)
-uses_append P [] ys h k = k
-uses_append P (x ∷ xs) ys h k = (h.0, uses_append P xs ys h.1 k)
 
 own_pins : (t : TableParts) (home : ℕ) (own : Option Mode) → home < length t.pins → ArePins t (use_at home own)
 own_pins t home None l = tt
 own_pins t home (Some mode) l = (l, tt)
 
-placed_pins : (t : TableParts) (rows : List PinUse) (own : Option Mode) (locked : Bool) (home : ℕ) → ArePins t rows → home < length t.pins → ArePins t (placed rows own locked home)
-placed_pins t [] own locked home h l = own_pins t home own l
-placed_pins t (row ∷ rows) own true home h l = uses_append (λ u. u.pin < length t.pins) (rows_at home (row ∷ rows)) [] (uses_filter (λ u. u.pin < length t.pins) (is_at home) (row ∷ rows) h) tt
-placed_pins t (row ∷ rows) own false home h l =
-    uses_append (λ u. u.pin < length t.pins) (rows_at home (row ∷ rows)) (rows_elsewhere home (row ∷ rows)) (uses_filter (λ u. u.pin < length t.pins) (is_at home) (row ∷ rows) h)
-    (uses_filter (λ u. u.pin < length t.pins) (λ u. not (is_at home u)) (row ∷ rows) h)
-
-values_pins : (t : TableParts) (rows : List PinUse) (own : Option Mode) (locked : Bool) (home : Option ℕ) → ArePins t rows → IfSome home (λ h. h < length t.pins) → ArePins t (values_from rows own locked home)
-values_pins t rows own locked None h l = h
-values_pins t rows own locked (Some home) h l = placed_pins t rows own locked home h l
+home_pins : (t : TableParts) (home : Option ℕ) (own : Option Mode) → IfSome home (λ h. h < length t.pins) → IfSome home (λ h. ArePins t (use_at h own))
+home_pins t None own l = tt
+home_pins t (Some home) own l = own_pins t home own l
 
 found_rows : (t : TableParts) (o : Option TableSignal) → MatchOption o (Unit {0}) (IsSignal (length t.pins)) → ArePins t (rows_of o)
 found_rows t None h = tt
 found_rows t (Some s) h = h.rows.at_pins
-
-each_find : (P : TableSignal → Type 0) (p : TableSignal → Bool) (xs : List TableSignal) → Each P xs → MatchOption (find p xs) (Unit {0}) P
-each_find P p [] h = tt
-each_find P p (x ∷ xs) h = case (p x) (each_find P p xs h.1)
-  where
-    case : (b : Bool) → MatchOption (find p xs) (Unit {0}) P → MatchOption (cond b (Some x) (find p xs)) (Unit {0}) P
-    case true rest = h.0
-    case false rest = rest
 
 home_within : (t : TableParts) (s : Signal) → IsPlaced t s → IfSome s.home (λ h. h < length t.pins)
 home_within t s p = case s.need s.home refl refl
@@ -172,8 +150,8 @@ pinned : (t : TableParts) (s : Signal) → IsValid t → IsPlaced t s → ArePin
 unfolding signal_named values_of
 pinned t s valid p =
     let found : Option TableSignal = find (λ x. bytes_eq x.name s.name) t.signals in
-    values_pins t (rows_of found) (own_mode s.name found) s.locked s.home
-    (found_rows t found (each_find (IsSignal (length t.pins)) (λ x. bytes_eq x.name s.name) t.signals valid.signals.each)) (home_within t s p)
+    values_each (λ u. u.pin < length t.pins) (rows_of found) (own_mode s.name found) s.locked s.home
+    (found_rows t found (each_find (IsSignal (length t.pins)) (λ x. bytes_eq x.name s.name) t.signals valid.signals.each)) (home_pins t s.home (own_mode s.name found) (home_within t s p))
 
 pub all_pinned : (t : TableParts) (ss : List Signal) → IsValid t → Each (IsPlaced t) ss → Each (ArePins t) (pin_values t ss)
 all_pinned t [] valid h = tt
@@ -215,12 +193,8 @@ own_alike home (Some m) = one_alike (is_exti m)
 
 placed_alike : (rows : List PinUse) (own : Option Mode) (locked : Bool) (home : ℕ) → ArePlain rows → are_alike (placed rows own locked home) ≡ true
 placed_alike [] own locked home h = own_alike home own
-placed_alike (row ∷ rows) own true home h =
-    plain_alike (rows_at home (row ∷ rows) ++ []) (uses_append (λ u. is_exti u.mode ≡ false) (rows_at home (row ∷ rows)) [] (uses_filter (λ u. is_exti u.mode ≡ false) (is_at home) (row ∷ rows) h) tt)
-placed_alike (row ∷ rows) own false home h =
-    plain_alike (rows_at home (row ∷ rows) ++ rows_elsewhere home (row ∷ rows))
-    (uses_append (λ u. is_exti u.mode ≡ false) (rows_at home (row ∷ rows)) (rows_elsewhere home (row ∷ rows)) (uses_filter (λ u. is_exti u.mode ≡ false) (is_at home) (row ∷ rows) h)
-    (uses_filter (λ u. is_exti u.mode ≡ false) (λ u. not (is_at home u)) (row ∷ rows) h))
+placed_alike (row ∷ rows) own locked home h =
+    plain_alike (rows_at home (row ∷ rows) ++ cond locked [] (rows_elsewhere home (row ∷ rows))) (rows_each (λ u. is_exti u.mode ≡ false) (row ∷ rows) locked home h)
 
 values_alike : (rows : List PinUse) (own : Option Mode) (locked : Bool) (home : Option ℕ) → ArePlain rows → are_alike (values_from rows own locked home) ≡ true
 values_alike rows own locked None h = plain_alike rows h
@@ -273,8 +247,10 @@ module _ (t : TableParts) (p : Project) (opts : Opts) (part : Part) (valid : IsV
     few = few;
     pins = all_pinned t p.signals valid placed;
     alike = all_alike t p.signals valid;
+    functions = all_functions t p.signals valid;
     facts = facts_are hertz;
     clock = clocks.clock;
+    domains = clocks.domains;
   }
 
 -- parts that are each the problem's are the problem

@@ -1,2 +1,4 @@
 pub mod AgreeLemmas
+pub mod DomainLemmas
+pub mod UseLemmas
 pub mod ValueLemmas

@@ -41,7 +41,7 @@ each_append : (P : ℕ → Type 0) (xs ys : List ℕ) → Each P xs → Each P y
 each_append P [] ys h k = k
 each_append P (x ∷ xs) ys h k = (h.0, each_append P xs ys h.1 k)
 
-within_values : (P : ℕ → Type 0) (fixed : Bool) (home : ℕ) (d : List ℕ) → Each P d → (fixed ≡ true → P home) → Each P (values_with fixed home d)
+pub within_values : (P : ℕ → Type 0) (fixed : Bool) (home : ℕ) (d : List ℕ) → Each P d → (fixed ≡ true → P home) → Each P (values_with fixed home d)
 within_values P true home d h f = (f refl, tt)
 within_values P false home d h f = each_append P (filter (is_home home) d) (filter (λ v. not (is_home home v)) d) (each_filter P (is_home home) d h) (each_filter P (λ v. not (is_home home v)) d h)
 

@@ -1,13 +1,15 @@
 -- The problem that a table, a project and options make, and what every problem keeps.
 use Rattle.std.specs.Prelude.{◌≡◌, ◌≢◌, ℕ, ◌≤◌, ◌<◌, ◌++◌, List, [], ◌∷◌, Bool, true, not, ◌||◌, Ok, length, take, drop}
 use Rattle.std.specs.List.{list_all, list_any}
-use Rattle.res_base.specs.Lists.{Each}
+use Rattle.res_base.specs.Lists.{Each, Member}
 use Rattle.choice_rank.specs.declared.variable.VarShape.{VarShape}
 use Rattle.choice_rank.specs.declared.shape.ShapeFault.{ShapeFault}
 use Rattle.choice_rank.specs.declared.shape.ShapeFault.TheVariants.{TooWide, Memory}
 use Rattle.choice_rank.specs.Choices.{IsNarrow, IsFirstWide, IsShape}
 use Rattle.res_model.specs.declared.command.Opts.{Opts}
 use Rattle.res_model.specs.declared.project.Project.{Project}
+use Rattle.res_model.specs.declared.table.Mode.{Mode}
+use Rattle.res_model.specs.declared.table.Mode.TheVariants as mode
 use Rattle.res_model.specs.declared.table.PinUse.{PinUse}
 use Rattle.res_model.specs.declared.table.TableParts.{TableParts}
 use Rattle.res_model.specs.Clock.{AreFacts, facts_of}
@@ -72,6 +74,26 @@ ArePins t us = Each (λ (u : PinUse). u.pin < length t.pins) us
 abbrev pub are_alike : List PinUse → Bool
 are_alike us = not (list_any (λ (u : PinUse). is_exti u.mode) us) || list_all (λ (u : PinUse). is_exti u.mode) us
 
+-- an alternate function has a number of four bits (RM0090, GPIOx_AFRL and GPIOx_AFRH)
+abbrev pub IsFunction : Mode → Type 0
+IsFunction (mode.Alt n) = n < 16
+IsFunction mode.Input = Unit {0}
+IsFunction mode.Output = Unit {0}
+IsFunction mode.Analog = Unit {0}
+IsFunction mode.Exti = Unit {0}
+IsFunction mode.Osc = Unit {0}
+IsFunction mode.Held = Unit {0}
+
+abbrev pub HaveFunctions : List PinUse → Type 0
+HaveFunctions us = Each (λ (u : PinUse). IsFunction u.mode) us
+
+-- as many lists of values as domains, each of values of the domain beside it
+abbrev pub AreFrom : List (List ℕ) → List (List ℕ) → Type 0
+AreFrom [] [] = Unit {0}
+AreFrom [] (d ∷ ds) = ⊥
+AreFrom (vs ∷ vss) [] = ⊥
+AreFrom (vs ∷ vss) (d ∷ ds) = Each (λ v. Member v d) vs × AreFrom vss ds
+
 -- ten lists of clock values, within the widest
 pub record IsClock (values : List (List ℕ)) : Type 0 where
   pub ten : length values ≡ 10
@@ -87,5 +109,7 @@ pub record IsProblem (p : ProblemParts) : Type 0 where
   pub few : length p.signals ≤ 160
   pub pins : Each (ArePins p.tables) p.uses
   pub alike : list_all are_alike p.uses ≡ true
+  pub functions : Each HaveFunctions p.uses
   pub facts : AreFacts p.facts
   pub clock : p.first ≢ 0 → IsClock p.clock
+  pub domains : p.first ≢ 0 → AreFrom p.clock (clock_domains p.tables)
