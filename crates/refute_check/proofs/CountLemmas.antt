@@ -3,19 +3,23 @@ use Rattle.std.proofs.Common.{◌≡◌, ℕ, zero, suc, ◌+◌, ◌-◌, ◌==
 use Rattle.std.specs.Prelude.{not, nat_lt}
 use Rattle.std.specs.List.{list_any}
 use Rattle.std.proofs.lemmas.Bool.Decides.{nat_tests}
-use Rattle.std.proofs.lemmas.List.{drop_all, drop_more}
+use Rattle.std.proofs.lemmas.List.{drop_all, drop_more, length-drop}
 use Rattle.res_base.specs.declared.var_set.VarSet.{VarSet}
 use Rattle.res_base.specs.Sums.{sum_below, one_if}
 use Rattle.res_base.specs.VarSet.{in_set, set_size}
 use Rattle.res_base.proofs.SumLemmas.{sum_same}
-use Rattle.box_split.specs.BoxIn.{runs_in}
-use Rattle.box_split.specs.Boxes.{Run}
+use Rattle.box_split.specs.declared.buffer.BoxBuf.{BoxBuf}
+use Rattle.box_split.specs.BoxIn.{box_in, runs_in}
+use Rattle.box_split.specs.Boxes.{Run, IsBox}
 use Rattle.pin_match.specs.Hall.{any_below}
+use Rattle.problem.specs.declared.parts.ProblemParts.{ProblemParts}
 use Rattle.res_model.specs.declared.table.PinUse.{PinUse}
 use Rattle.res_model.specs.declared.table.TableParts.{TableParts}
 use Rattle.search_api.specs.declared.verdict.Class.{Class}
 use Rattle.box_rules.specs.Contest.{Contestant, competes, contestants, is_contestant, joined, resource_of, resources_of, shows_hall, uses_in, variable_at, wants}
 use Rattle.box_rules.specs.Inside.{AreInside}
+use Rattle.box_rules.specs.Judged.{IsReady}
+use Rattle.box_rules.proofs.ContestLemmas.{as_many_values, box_drop, box_inside}
 use Rattle.box_rules.proofs.CountLemmas.{any_in}
 use Rattle.box_rules.proofs.MemberLemmas.{no_run, run_at}
 use Rattle.refute_check.specs.Counting.{are_of_class, has_resource, is_of_class, is_used}
@@ -199,3 +203,18 @@ runs_drop (suc k) zero lo hi a b = let e : zero - suc k ≡ 0 = omega arith in a
 runs_drop (suc k) (suc n) [] hi a b = absurd (omega arith)
 runs_drop (suc k) (suc n) (x ∷ lo) [] a b = absurd (omega arith)
 runs_drop (suc k) (suc n) (x ∷ lo) (y ∷ hi) a b = let e : suc n - suc k ≡ n - k = omega arith in ap (λ (m : ℕ). runs_in m (drop k lo) (drop k hi)) e ∙ runs_drop k n lo hi (omega arith) (omega arith)
+
+-- ---- in a problem
+
+module _ (p : ProblemParts) (ready : IsReady p) (b : BoxBuf) (is_box : IsBox p.shape (box_in p.shape b)) (lows : length b.lo ≡ 170) (highs : length b.hi ≡ 170) where
+  pub as_many_uses : length p.uses ≡ length p.shape - p.first
+  as_many_uses = as_many_values (drop p.first p.shape) p.uses ready.sizes ∙ length-drop p.first p.shape
+
+  -- the runs of the signals
+  pub signal_runs : runs_in (length p.uses) (drop p.first b.lo) (drop p.first b.hi) ≡ drop p.first (box_in p.shape b)
+  signal_runs =
+      ap (λ (n : ℕ). runs_in n (drop p.first b.lo) (drop p.first b.hi)) as_many_uses
+      ∙ runs_drop p.first (length p.shape) b.lo b.hi (omega (arith, ready.shape.few, lows)) (omega (arith, ready.shape.few, highs))
+
+  pub signals_inside : AreInside p.uses (runs_in (length p.uses) (drop p.first b.lo) (drop p.first b.hi))
+  signals_inside = subst (AreInside p.uses) (sym signal_runs) (box_inside (drop p.first p.shape) p.uses (drop p.first (box_in p.shape b)) ready.sizes (box_drop p.first p.shape (box_in p.shape b) is_box))

@@ -6,7 +6,7 @@ ghost use Rattle.res_base.specs.VarSet.{in_set};
 ghost use Rattle.box_split.specs.Boxes.{IsBox};
 ghost use Rattle.box_split.specs.BoxIn.{box_in, runs_in};
 ghost use Rattle.res_model.specs.Placement.{is_exti, number_of};
-ghost use Rattle.box_rules.specs.Contest.{competes, resource_of, shows_hall, uses_in};
+ghost use Rattle.box_rules.specs.Contest.{competes, contestants, resource_of, shows_hall, uses_in};
 ghost use Rattle.box_rules.specs.Inside.{AreInside};
 ghost use Rattle.box_rules.specs.Judged.{contest, HasResources, IsReady};
 ghost use Rattle.refute_check.specs.Counting.{are_of_class, has_resource, is_of_class, is_used};
@@ -24,14 +24,10 @@ pub(crate) fn shows_hall(p: &Problem, class: Class, vars: &VarSet, b: &BoxBuf) -
 {
     is_ready(p);
     let parts = p.parts();
+    let t = parts.tables.parts();
     let uses = parts.uses.as_slice();
     let first = parts.first as usize;
-    let t = parts.tables.parts();
-    if !are_of_class(class, first, uses, vars) {
-        return false;
-    }
-    let found = resources_of(t, class, vars, first, uses, &b.lo[first..], &b.hi[first..]);
-    found.len() < vars.len()
+    are_too_many(t, class, vars, first, uses, &b.lo[first..], &b.hi[first..])
 }
 
 /// That a problem has what the counts rest on.
@@ -40,6 +36,30 @@ fn is_ready(p: &Problem)
 {
     p.parts_agree();
     p.parts().tables.keeps_rules();
+}
+
+/// Whether variables are all signals of the class, and more than the resources that they have together.
+fn are_too_many(
+    t: &TableParts,
+    class: Class,
+    vars: &VarSet,
+    first: usize,
+    uses: &[Items<PinUse>],
+    lo: &[u16],
+    hi: &[u16],
+) -> bool
+    requires few { first + length uses.now ≤ 192 }
+    requires low { length uses.now ≤ length lo.now }
+    requires high { length uses.now ≤ length hi.now }
+    requires inside { AreInside uses.now (runs_in (length uses.now) lo.now hi.now) }
+    requires resources { Each (Each (HasResources t.now)) uses.now }
+    ensures { result ≡ shows_hall t.now class (contestants class first uses.now (runs_in (length uses.now) lo.now hi.now)) vars.now }
+{
+    if !are_of_class(class, first, uses, vars) {
+        return false;
+    }
+    let found = resources_of(t, class, vars, first, uses, lo, hi);
+    found.len() < vars.len()
 }
 
 fn is_exti(mode: Mode) -> bool
