@@ -62,10 +62,10 @@ box_inside (v ∷ vs) (us ∷ uss) (r ∷ rs) h b = ((b.0, omega (arith, b.1, h.
 first_use : (us : List PinUse) (x : ℕ) (rest : List PinUse) (d : PinUse) → x < length us → option_to_list (slice_get us x) ++ rest ≡ get_or us x d ∷ rest
 first_use us x rest d l = ap (λ (o : Option PinUse). option_to_list o ++ rest) (slice_get-get_or us x d l)
 
-range_long : (us : List PinUse) (low high : ℕ) → low ≤ high → high < length us → length (slice_range us low (high + 1)) ≡ high + 1 - low
+pub range_long : {X : Type 0} (us : List X) (low high : ℕ) → low ≤ high → high < length us → length (slice_range us low (high + 1)) ≡ high + 1 - low
 range_long us low high o l = omega (arith, length-take (high + 1 - low) (drop low us), length-drop low us)
 
-range_at : (us : List PinUse) (low high x : ℕ) (d : PinUse) → low ≤ x → x ≤ high → get_or (slice_range us low (high + 1)) (x - low) d ≡ get_or us x d
+pub range_at : {X : Type 0} (us : List X) (low high x : ℕ) (d : X) → low ≤ x → x ≤ high → get_or (slice_range us low (high + 1)) (x - low) d ≡ get_or us x d
 range_at us low high x d o l =
     let place : low + (x - low) ≡ x = omega arith in
     get_or-take (high + 1 - low) (drop low us) (x - low) d (omega arith) ∙ get_or-drop low us (x - low) d ∙ ap (λ (k : ℕ). get_or us k d) place

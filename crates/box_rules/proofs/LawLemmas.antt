@@ -57,7 +57,7 @@ drop_lows (suc k) [] = refl
 drop_lows (suc k) (r ∷ rs) = drop_lows k rs
 
 module _ (p : ProblemParts) (ready : IsReady p) where
-  few : p.first + length p.uses ≤ 192
+  pub few : p.first + length p.uses ≤ 192
   few = omega (arith, as_many_values (drop p.first p.shape) p.uses ready.sizes, length-drop p.first p.shape, ready.shape.few, ready.first)
 
   module _ (box : List Run) (is_box : IsBox p.shape box) where
@@ -102,7 +102,7 @@ module _ (p : ProblemParts) (ready : IsReady p) where
           any_default (u ∷ us) zero d e l = refl
           any_default (u ∷ us) (suc i) d e l = any_default us i d e (omega arith)
 
-  meets_fits : (choice : List ℕ) → meets p choice ≡ true → fits p.tables (uses_at p.uses (drop p.first choice)) ≡ true
+  pub meets_fits : (choice : List ℕ) → meets p choice ≡ true → fits p.tables (uses_at p.uses (drop p.first choice)) ≡ true
   unfolding meets
   meets_fits choice e = (both (fits p.tables (uses_at p.uses (drop p.first choice))) (p.first == 0 || is_none (broken_limit p.tables p.facts (clock_at p.clock choice))) e).0
 

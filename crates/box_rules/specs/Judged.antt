@@ -7,7 +7,8 @@ use Rattle.box_split.specs.Boxes.{Run, highs, is_single, lows}
 use Rattle.problem.specs.declared.parts.ProblemParts.{ProblemParts}
 use Rattle.choice_rank.specs.Choices.{IsShape}
 use Rattle.problem.specs.Meets.{meets}
-use Rattle.problem.specs.Problem.{HaveValues, are_alike}
+use Rattle.problem.specs.Problem.{HaveValues, IsClock, are_alike}
+use Rattle.res_model.specs.Clock.{AreFacts}
 use Rattle.res_model.specs.Ranges.{shows_limit, shown_limit}
 use Rattle.res_model.specs.declared.clock.ClockBox.{ClockBox}
 use Rattle.res_model.specs.declared.table.PinUse.{PinUse}
@@ -78,3 +79,11 @@ pub record IsReady (p : ProblemParts) : Type 0 where
   pub sizes : HaveValues (drop p.first p.shape) p.uses
   pub resources : Each (Each (HasResources p.tables)) p.uses
   pub alike : list_all are_alike p.uses ≡ true
+
+-- what a judge keeps of a whole problem
+pub record IsWhole (p : ProblemParts) : Type 0 where
+  pub ready : IsReady p
+  pub first : p.first ≡ 10
+  pub clock : IsClock p.clock
+  pub clock_sizes : HaveValues (take p.first p.shape) p.clock
+  pub facts : AreFacts p.facts

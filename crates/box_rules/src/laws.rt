@@ -7,7 +7,7 @@ ghost use Rattle.res_model.specs.Placement.{fits, uses_at};
 ghost use Rattle.search_api.specs.declared.verdict.Class.{Class};
 ghost use Rattle.search_api.specs.Meaning.{IsLawful};
 ghost use Rattle.box_rules.specs.Contest.{shows_hall};
-ghost use Rattle.box_rules.specs.Judged.{IsReady, contest, pin_meaning};
+ghost use Rattle.box_rules.specs.Judged.{IsReady, IsWhole, contest, pin_meaning, whole_meaning};
 
 /// No choice of a box that a Hall set shows has pins that fit.
 pub fn shown_hall_leaves_none()
@@ -18,4 +18,9 @@ pub fn shown_hall_leaves_none()
 /// What the judge of pins means is lawful.
 pub fn pin_verdicts_are_lawful()
     ensures { (p : ProblemParts) → IsReady p → p.first ≡ 0 → IsLawful (pin_meaning p) }
+{}
+
+/// What the judge of pins and clocks means is lawful.
+pub fn whole_verdicts_are_lawful()
+    ensures { (p : ProblemParts) → IsWhole p → IsLawful (whole_meaning p) }
 {}

@@ -3,4 +3,4 @@
 
 mod laws;
 
-pub use laws::{pin_verdicts_are_lawful, shown_hall_leaves_none};
+pub use laws::{pin_verdicts_are_lawful, shown_hall_leaves_none, whole_verdicts_are_lawful};
