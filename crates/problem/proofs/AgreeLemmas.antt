@@ -1,6 +1,6 @@
 -- That the parts of the problem agree.
 use Rattle.std.proofs.Common.{◌≡◌, ◌≢◌, ℕ, zero, suc, ◌<◌, ◌≤◌, ◌^◌, ◌++◌, List, [], ◌∷◌, length, take, drop, Bool, true, false, ◌&&◌, ◌||◌, not, cond, length-append, refl, sym, subst, ap, ◌∙◌, arith}
-use Rattle.std.specs.Prelude.{filter, find, IfSome, Option, Some, None, IsSomeAnd, MatchOption}
+use Rattle.std.specs.Prelude.{find, IfSome, Option, Some, None, IsSomeAnd, MatchOption}
 use Rattle.std.specs.List.{list_all, list_any}
 use Rattle.std.specs.Str.{bytes_eq}
 use Rattle.res_base.proofs.ListLemmas.{each_map}
@@ -18,7 +18,7 @@ use Rattle.res_model.specs.Placement.{is_exti}
 use Rattle.res_model.specs.declared.table.Role.{Role}
 use Rattle.res_model.specs.declared.table.Role.TheVariants as role
 use Rattle.res_model.specs.declared.table.Mode.TheVariants as mode
-use Rattle.res_model.specs.Values.{is_at, rows_at, rows_elsewhere, use_at, placed, values_from, values_of, pin_values, pin_variables}
+use Rattle.res_model.specs.Values.{rows_at, rows_elsewhere, use_at, placed, values_from, values_of, pin_values, pin_variables}
 use Rattle.res_model.specs.declared.clock.Facts.{Facts}
 use Rattle.res_model.specs.declared.command.Opts.{Opts}
 use Rattle.res_model.specs.declared.project.Project.{Project}

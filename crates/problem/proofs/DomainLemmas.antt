@@ -1,13 +1,13 @@
 -- The values of each clock variable are of its domain.
-use Rattle.std.proofs.Common.{◌≡◌, ℕ, zero, suc, ◌+◌, ◌-◌, ◌<◌, ◌≤◌, ◌++◌, ◌==◌, List, [], ◌∷◌, length, Bool, true, false, not, cond, inl, inr, refl, sym, subst, ap, ◌∙◌, arith}
+use Rattle.std.proofs.Common.{◌≡◌, ℕ, zero, suc, ◌+◌, ◌-◌, ◌<◌, ◌≤◌, ◌==◌, List, [], ◌∷◌, length, Bool, true, false, inl, inr, refl, arith}
 use Rattle.std.proofs.lemmas.Bool.Decides.{nat_tests}
-use Rattle.std.specs.Prelude.{filter, Ok, nat_lt, nat_le, ◌&&◌}
+use Rattle.std.specs.Prelude.{Ok, nat_lt, nat_le, ◌&&◌}
 use Rattle.res_base.specs.Lists.{Each, Member}
 use Rattle.res_base.proofs.ListLemmas.{each_map}
 use Rattle.res_model.specs.Project.{domain_tests, all_within, is_among, is_within}
 use Rattle.res_model.specs.declared.project.Home.{Home}
 use Rattle.res_model.specs.declared.table.TableParts.{TableParts}
-use Rattle.problem.specs.ClockValues.{numbers_from, between, clock_domains, values_with, clock_values}
+use Rattle.problem.specs.ClockValues.{numbers_from, between, clock_domains, clock_values}
 use Rattle.problem.specs.Problem.{AreFrom}
 use Rattle.problem.proofs.ValueLemmas.{within_values}
 

@@ -1,5 +1,5 @@
 -- What holds of each row of a signal, and of its own use of its home, holds of each of its values.
-use Rattle.std.proofs.Common.{◌≡◌, ℕ, ◌<◌, ◌++◌, List, [], ◌∷◌, length, Bool, true, false, not, cond, refl}
+use Rattle.std.proofs.Common.{ℕ, ◌++◌, List, [], ◌∷◌, length, Bool, true, false, not, cond}
 use Rattle.std.specs.Prelude.{codes, filter, find, Option, Some, None, IfSome, MatchOption}
 use Rattle.std.specs.Str.{bytes_eq}
 use Rattle.res_base.proofs.ListLemmas.{each_map}

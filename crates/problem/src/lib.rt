@@ -2,9 +2,12 @@
 #![tactic(auto)]
 
 mod assembly;
+mod choices;
 mod clocks;
+mod laws;
 mod parts;
 mod pins;
 
 pub use assembly::build;
+pub use laws::{clocks_are_in_range, meets_is_every_limit};
 pub use parts::{Part, Problem, ProblemParts};
