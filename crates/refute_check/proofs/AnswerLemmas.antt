@@ -1,5 +1,5 @@
 -- What an accepted tree says of the choices that are legal.
-use Rattle.std.proofs.Common.{◌≡◌, ℕ, ◌<◌, ◌≤◌, List, Bool, true, false, Option, Some, None, ◌⊎◌, inl, inr, refl, arith}
+use Rattle.std.proofs.Common.{◌≡◌, ℕ, ◌<◌, ◌≤◌, List, true, false, Option, Some, None, inl, inr, arith}
 use Rattle.std.proofs.lemmas.Bool.Decides.{nat_tests}
 use Rattle.choice_rank.specs.Choices.{IsChoice, rank_of}
 use Rattle.choice_rank.specs.Least.{IsAnswer}
@@ -10,7 +10,7 @@ use Rattle.box_split.proofs.RunLemmas.{low_rank}
 use Rattle.search_api.specs.Meaning.{Meaning, IsLawful}
 use Rattle.refutation.specs.declared.node.Node.{Node}
 use Rattle.refutation.specs.Outcomes.{is_below}
-use Rattle.refutation.specs.Trees.{Tree, BadLeaf, RankLeaf, WitnessLeaf, Fork, CanSplit, low_part, high_part, IsWitness, Accepts, HasWitness, IsAccepted}
+use Rattle.refutation.specs.Trees.{Tree, BadLeaf, RankLeaf, WitnessLeaf, Fork, low_part, high_part, IsWitness, Accepts, HasWitness, IsAccepted}
 use Rattle.refute_check.proofs.PartLemmas.{low_is_box, high_is_box, in_part}
 
 module _ (m : Meaning) (lawful : IsLawful m) where

@@ -1,10 +1,10 @@
 -- What is counted signal by signal is what the definition of a shown box counts.
 use Rattle.std.proofs.Common.{◌≡◌, ℕ, zero, suc, ◌+◌, ◌-◌, ◌==◌, ◌<◌, ◌≤◌, List, [], ◌∷◌, length, get_or, drop, Bool, true, false, ◌&&◌, ◌||◌, ◌⊎◌, inl, inr, refl, sym, ap, subst, ◌∙◌, arith}
 use Rattle.std.specs.Prelude.{not, nat_lt}
-use Rattle.std.specs.List.{list_any}
 use Rattle.std.proofs.lemmas.Bool.Decides.{nat_tests}
 use Rattle.std.proofs.lemmas.List.{drop_all, drop_more, length-drop}
 use Rattle.res_base.specs.declared.var_set.VarSet.{VarSet}
+use Rattle.res_base.specs.Lists.{Each}
 use Rattle.res_base.specs.Sums.{sum_below, one_if}
 use Rattle.res_base.specs.VarSet.{in_set, set_size}
 use Rattle.res_base.proofs.SumLemmas.{sum_same}
@@ -16,9 +16,9 @@ use Rattle.problem.specs.declared.parts.ProblemParts.{ProblemParts}
 use Rattle.res_model.specs.declared.table.PinUse.{PinUse}
 use Rattle.res_model.specs.declared.table.TableParts.{TableParts}
 use Rattle.search_api.specs.declared.verdict.Class.{Class}
-use Rattle.box_rules.specs.Contest.{Contestant, competes, contestants, is_contestant, joined, resource_of, resources_of, shows_hall, uses_in, variable_at, wants}
+use Rattle.box_rules.specs.Contest.{Contestant, competes, contestants, is_contestant, joined, resources_of, shows_hall, uses_in, variable_at, wants}
 use Rattle.box_rules.specs.Inside.{AreInside}
-use Rattle.box_rules.specs.Judged.{IsReady}
+use Rattle.box_rules.specs.Judged.{contest, HasResources, IsReady}
 use Rattle.box_rules.proofs.ContestLemmas.{as_many_values, box_drop, box_inside}
 use Rattle.box_rules.proofs.CountLemmas.{any_in}
 use Rattle.box_rules.proofs.MemberLemmas.{no_run, run_at}
@@ -218,3 +218,49 @@ module _ (p : ProblemParts) (ready : IsReady p) (b : BoxBuf) (is_box : IsBox p.s
 
   pub signals_inside : AreInside p.uses (runs_in (length p.uses) (drop p.first b.lo) (drop p.first b.hi))
   signals_inside = subst (AreInside p.uses) (sym signal_runs) (box_inside (drop p.first p.shape) p.uses (drop p.first (box_in p.shape b)) ready.sizes (box_drop p.first p.shape (box_in p.shape b) is_box))
+
+-- what a count asks of its arguments
+pub record CanCount (first : ℕ) (uses : List (List PinUse)) (t : TableParts) (lo hi : List ℕ) : Type 0 where
+  pub few : first + length uses ≤ 192
+  pub low : length uses ≤ length lo
+  pub high : length uses ≤ length hi
+  pub inside : AreInside uses (runs_in (length uses) lo hi)
+  pub resources : Each (Each (HasResources t)) uses
+
+-- the arguments are those of the problem and the box
+pub record AreOf (p : ProblemParts) (b : BoxBuf) (first : ℕ) (uses : List (List PinUse)) (t : TableParts) (lo hi : List ℕ) : Type 0 where
+  pub first_is : first ≡ p.first
+  pub uses_are : uses ≡ p.uses
+  pub tables_are : t ≡ p.tables
+  pub lo_is : lo ≡ drop p.first b.lo
+  pub hi_is : hi ≡ drop p.first b.hi
+
+module _ (p : ProblemParts) (ready : IsReady p) (b : BoxBuf) (is_box : IsBox p.shape (box_in p.shape b)) (lows : length b.lo ≡ 170) (highs : length b.hi ≡ 170) where
+  own_count : CanCount p.first p.uses p.tables (drop p.first b.lo) (drop p.first b.hi)
+  own_count =
+      let many = as_many_uses p ready b is_box lows highs in
+      record {
+        few = omega (arith, many, ready.shape.few, ready.first);
+        low = omega (arith, many, ready.shape.few, lows, length-drop p.first b.lo);
+        high = omega (arith, many, ready.shape.few, highs, length-drop p.first b.hi);
+        inside = signals_inside p ready b is_box lows highs;
+        resources = ready.resources;
+      }
+
+  pub can_count : (first : ℕ) (uses : List (List PinUse)) (t : TableParts) (lo hi : List ℕ) → AreOf p b first uses t lo hi → CanCount first uses t lo hi
+  can_count first uses t lo hi e =
+      subst (λ (n : ℕ). CanCount n uses t lo hi) (sym e.first_is)
+      (subst (λ (xs : List (List PinUse)). CanCount p.first xs t lo hi) (sym e.uses_are)
+      (subst (λ (x : TableParts). CanCount p.first p.uses x lo hi) (sym e.tables_are)
+      (subst (λ (xs : List ℕ). CanCount p.first p.uses p.tables xs hi) (sym e.lo_is)
+      (subst (λ (xs : List ℕ). CanCount p.first p.uses p.tables (drop p.first b.lo) xs) (sym e.hi_is) own_count))))
+
+  pub count_is : (class : Class) (vars : VarSet) (first : ℕ) (uses : List (List PinUse)) (t : TableParts) (lo hi : List ℕ) → AreOf p b first uses t lo hi
+      → shows_hall t class (contestants class first uses (runs_in (length uses) lo hi)) vars ≡ shows_hall p.tables class (contest p class (box_in p.shape b)) vars
+  count_is class vars first uses t lo hi e =
+      ap (λ (n : ℕ). shows_hall t class (contestants class n uses (runs_in (length uses) lo hi)) vars) e.first_is
+      ∙ ap (λ (xs : List (List PinUse)). shows_hall t class (contestants class p.first xs (runs_in (length xs) lo hi)) vars) e.uses_are
+      ∙ ap (λ (x : TableParts). shows_hall x class (contestants class p.first p.uses (runs_in (length p.uses) lo hi)) vars) e.tables_are
+      ∙ ap (λ (xs : List ℕ). shows_hall p.tables class (contestants class p.first p.uses (runs_in (length p.uses) xs hi)) vars) e.lo_is
+      ∙ ap (λ (xs : List ℕ). shows_hall p.tables class (contestants class p.first p.uses (runs_in (length p.uses) (drop p.first b.lo) xs)) vars) e.hi_is
+      ∙ ap (λ (rs : List Run). shows_hall p.tables class (contestants class p.first p.uses rs) vars) (signal_runs p ready b is_box lows highs)

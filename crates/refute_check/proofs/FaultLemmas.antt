@@ -1,16 +1,13 @@
 -- A proof is accepted exactly where no node is at fault.
-use Rattle.std.proofs.Common.{◌≡◌, ℕ, ◌+◌, List, [], ◌∷◌, ◌++◌, length, Bool, true, false, ◌||◌, Option, Some, None, ◌⊎◌, inl, inr, refl, sym, ap, subst, ◌∙◌, append_assoc, arith}
-use Rattle.std.specs.Prelude.{if◌then◌else◌}
+use Rattle.std.proofs.Common.{◌≡◌, ℕ, ◌+◌, List, [], ◌∷◌, ◌++◌, length, Bool, true, false, ◌||◌, Option, Some, None, ◌⊎◌, inl, inr, refl, sym, ap, ◌∙◌, append_assoc}
 use Rattle.std.specs.List.{list_any}
 use Rattle.res_base.proofs.SumLemmas.{bool_cases}
-use Rattle.box_split.specs.Boxes.{Run, whole, low_of}
+use Rattle.box_split.specs.Boxes.{Run, whole}
 use Rattle.search_api.specs.Meaning.{Meaning}
-use Rattle.refutation.specs.declared.node.CheckFault.{CheckFault}
 use Rattle.refutation.specs.declared.node.Node.{Node}
 use Rattle.refutation.specs.declared.node.Node.TheVariants as node
-use Rattle.refutation.specs.Outcomes.{is_below}
-use Rattle.refutation.specs.Trees.{Tree, BadLeaf, RankLeaf, WitnessLeaf, Fork, nodes_of, CanSplit, low_part, high_part, IsWitness, Accepts, HasWitness, NeedsWitness, IsAccepted}
-use Rattle.refute_check.specs.Faults.{can_split, is_witness, keeps_rule, parts_of, fault_from, is_witness_leaf, fault_of_witness, first_of, fault_at}
+use Rattle.refutation.specs.Trees.{Tree, BadLeaf, RankLeaf, WitnessLeaf, Fork, nodes_of, low_part, high_part, Accepts, HasWitness, NeedsWitness, IsAccepted}
+use Rattle.refute_check.specs.Faults.{keeps_rule, parts_of, fault_from, is_witness_leaf, fault_of_witness, first_of, fault_at}
 use Rattle.refute_check.proofs.PartLemmas.{splits, splits_back, witness, witness_back}
 
 some_not : {A : Type 0} (n : ℕ) (o : Option ℕ) → o ≡ Some n → o ≡ None → A
@@ -34,10 +31,12 @@ module _ (m : Meaning) (bound : Option ℕ) where
       let low = low_part v w box in
       let high = high_part v w box in
       let first = runs l low a.1 (high ∷ boxes) (nodes_of r ++ rest) (k + 1) in
-      let second = runs r high a.2 boxes rest first.0 in
-      (second.0, kept_on k (node.Split v w) ((nodes_of l ++ nodes_of r) ++ rest) box boxes (splits_back v w box a.0)
-        ∙ ap (λ (ns : List Node). fault_from m bound (k + 1) ns (low ∷ high ∷ boxes)) (append_assoc (nodes_of l) (nodes_of r) rest)
-        ∙ first.1 ∙ second.1)
+      let second = runs r high a.2 boxes rest first.0 in (
+        second.0,
+        kept_on k (node.Split v w) ((nodes_of l ++ nodes_of r) ++ rest) box boxes (splits_back v w box a.0)
+            ∙ ap (λ (ns : List Node). fault_from m bound (k + 1) ns (low ∷ high ∷ boxes)) (append_assoc (nodes_of l) (nodes_of r) rest)
+            ∙ first.1 ∙ second.1,
+      )
 
   -- boxes that take up the nodes, a tree each
   Takes : List (List Run) → List Node → Type 0
@@ -51,10 +50,13 @@ module _ (m : Meaning) (bound : Option ℕ) where
   leaf_on node.Witness ns box boxes h t = (WitnessLeaf, ns, refl, witness m bound box h, t)
   leaf_on (node.Split v k) ns box boxes h t =
       let l = t in
-      let r = t.4 in
-      (Fork v k l.0 r.0, r.1,
+      let r = t.4 in (
+        Fork v k l.0 r.0,
+        r.1,
         ap (λ xs. node.Split v k ∷ xs) (l.2 ∙ ap (λ xs. nodes_of l.0 ++ xs) r.2 ∙ sym (append_assoc (nodes_of l.0) (nodes_of r.0) r.1)),
-        (splits v k box h, l.3, r.3), r.4)
+        (splits v k box h, l.3, r.3),
+        r.4,
+      )
 
   takes : (nodes : List Node) (boxes : List (List Run)) (k : ℕ) → fault_from m bound k nodes boxes ≡ None → Takes boxes nodes
   unfolding Takes fault_from
@@ -133,7 +135,7 @@ module _ (m : Meaning) (bound : Option ℕ) (nodes : List Node) where
   faultless a =
       let walk = runs m bound a.tree (whole m.shape) a.accepts [] [] 0 in
       let none : fault_from m bound 0 nodes (whole m.shape ∷ []) ≡ None =
-        ap (λ (ns : List Node). fault_from m bound 0 ns (whole m.shape ∷ [])) (sym a.nodes_are ∙ sym (append_none (nodes_of a.tree))) ∙ walk.1 in
+      ap (λ (ns : List Node). fault_from m bound 0 ns (whole m.shape ∷ [])) (sym a.nodes_are ∙ sym (append_none (nodes_of a.tree))) ∙ walk.1 in
       let late : fault_of_witness bound nodes ≡ None = ap (fault_of_witness bound) (sym a.nodes_are) ∙ no_fault bound a.tree a.witness in
       rw none late
 

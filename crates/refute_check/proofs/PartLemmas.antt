@@ -1,13 +1,11 @@
 -- The two parts of a box that is split, and the rules of nodes as tests.
-use Rattle.std.proofs.Common.{◌≡◌, ℕ, zero, suc, ◌+◌, ◌==◌, ◌<◌, ◌≤◌, List, [], ◌∷◌, Bool, true, false, ◌&&◌, leb, ltb, Option, Some, None, ◌⊎◌, inl, inr, refl, arith}
+use Rattle.std.proofs.Common.{◌≡◌, ℕ, zero, suc, ◌==◌, ◌<◌, ◌≤◌, List, [], ◌∷◌, Bool, true, false, ◌&&◌, leb, ltb, Option, Some, None, ◌⊎◌, inl, inr, arith}
 use Rattle.std.proofs.lemmas.Bool.Decides.{nat_tests}
 use Rattle.std.proofs.lemmas.Bool.{cases_lt}
 use Rattle.choice_rank.specs.declared.variable.VarShape.{VarShape}
 use Rattle.box_split.specs.Boxes.{Run, IsBox, LiesIn, is_single, low_of, lows}
 use Rattle.box_split.proofs.RunLemmas.{and_both}
 use Rattle.search_api.specs.Meaning.{Meaning}
-use Rattle.refutation.specs.declared.node.Node.{Node}
-use Rattle.refutation.specs.declared.node.Node.TheVariants as node
 use Rattle.refutation.specs.Trees.{CanSplit, low_part, high_part, IsWitness}
 use Rattle.refute_check.specs.Faults.{can_split, is_witness}
 

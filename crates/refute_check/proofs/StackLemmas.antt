@@ -1,15 +1,14 @@
 -- Boxes on a stack, and the parts of a box in a buffer.
-use Rattle.std.proofs.Common.{◌≡◌, ℕ, zero, suc, ◌+◌, ◌<◌, ◌≤◌, List, [], ◌∷◌, ◌++◌, length, get_or, set, Bool, true, false, ◌&&◌, leb, ltb, Option, Some, None, refl, sym, ap, subst, ◌∙◌, arith}
-use Rattle.std.specs.Prelude.{map, reverse}
+use Rattle.std.proofs.Common.{◌≡◌, ℕ, zero, suc, ◌+◌, ◌<◌, ◌≤◌, List, [], ◌∷◌, ◌++◌, length, get_or, set, true, false, ◌&&◌, leb, ltb, refl, ap, ◌∙◌, arith}
+use Rattle.std.specs.Prelude.{map}
 use Rattle.std.proofs.lemmas.Bool.Decides.{nat_tests}
 use Rattle.std.proofs.lemmas.List.{reverse-append}
 use Rattle.choice_rank.specs.declared.variable.VarShape.{VarShape}
-use Rattle.res_base.specs.Lists.{Each}
 use Rattle.box_split.specs.declared.buffer.BoxBuf.{BoxBuf}
 use Rattle.box_split.specs.BoxIn.{box_in, runs_in}
 use Rattle.box_split.specs.Boxes.{Run, IsBox}
 use Rattle.box_split.proofs.RunLemmas.{and_both}
-use Rattle.refutation.specs.Trees.{CanSplit, low_part, high_part}
+use Rattle.refutation.specs.Trees.{low_part, high_part}
 use Rattle.refute_check.specs.Due.{boxes_of, AreBoxes}
 use Rattle.refute_check.specs.Faults.{can_split}
 use Rattle.refute_check.proofs.PartLemmas.{splits, low_is_box, high_is_box}

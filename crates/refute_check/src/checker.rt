@@ -1,18 +1,22 @@
 ghost use Rattle.std.specs.Prelude.{◌≡◌, ◌≢◌, ◌<◌, ◌^◌, ◌∷◌, [], length, IfOk, IfErr, OnOk};
 ghost use Rattle.std.specs.List.{list_any};
+ghost use Rattle.choice_rank.specs.Least.{IsAnswer};
 ghost use Rattle.box_split.specs.Boxes.{whole};
+ghost use Rattle.problem.specs.Meets.{meets};
 ghost use Rattle.box_rules.specs.Judged.{whole_meaning};
 ghost use Rattle.refutation.specs.Trees.{IsAccepted};
 ghost use Rattle.refute_check.specs.Faults.{fault_at, fault_from, fault_of_witness, is_witness_leaf, IsRejected};
 
 use crate::rules::{is_witness_leaf, keeps_rule};
 use crate::stack::{all_due, push_parts};
+use crate::whole::is_whole;
 use problem::Problem;
 use refutation::{CheckFault, Node, Proof};
 use res_base::OutOfMemory;
 use std::alloc::Global;
 
-/// The bound of a proof that is accepted for a whole problem.
+/// The bound of a proof that is accepted for a whole problem: the rank of the least choice that
+/// meets the limits, or none where no choice meets them.
 ///
 /// A proof is refused exactly where it is not accepted, with the first node, from 0, that breaks
 /// its rule; that is also a node after the tree is whole. It is the number of nodes where they end
@@ -22,8 +26,10 @@ pub fn check(alloc: Global, p: &Problem, proof: &Proof) -> Result<Option<u64>, C
     requires few { length proof.now.nodes < 2 ^ 32 }
     ensures bound { IfOk result (λ bound. bound ≡ proof.now.bound) }
     ensures accepted { OnOk result (IsAccepted (whole_meaning p.now) proof.now.bound proof.now.nodes) }
+    ensures answer { OnOk result (IsAnswer p.now.shape (meets p.now) proof.now.bound) }
     ensures rejected { IfErr result (IsRejected (whole_meaning p.now) proof.now.bound proof.now.nodes) }
 {
+    is_whole(p);
     let nodes = proof.nodes.as_slice();
     match fault_at(alloc, p, proof.bound, nodes) {
         Ok(None) => Ok(proof.bound),

@@ -1,5 +1,5 @@
 //! Whether variables are more than the resources that they have together.
-ghost use Rattle.std.specs.Prelude.{◌≡◌, ◌≤◌, ◌<◌, ◌+◌, ◌&&◌, ◌||◌, ℕ, List, [], length, drop, slice_index, slice_index_or};
+ghost use Rattle.std.specs.Prelude.{◌≡◌, ◌≢◌, ◌≤◌, ◌<◌, ◌+◌, ◌&&◌, ◌||◌, ℕ, List, [], length, drop, slice_index, slice_index_or};
 ghost use Rattle.std.specs.List.{list_all};
 ghost use Rattle.res_base.specs.Lists.{Each};
 ghost use Rattle.res_base.specs.VarSet.{in_set};
@@ -8,9 +8,10 @@ ghost use Rattle.box_split.specs.BoxIn.{box_in, runs_in};
 ghost use Rattle.res_model.specs.Placement.{is_exti, number_of};
 ghost use Rattle.box_rules.specs.Contest.{competes, contestants, resource_of, shows_hall, uses_in};
 ghost use Rattle.box_rules.specs.Inside.{AreInside};
-ghost use Rattle.box_rules.specs.Judged.{contest, HasResources, IsReady};
+ghost use Rattle.box_rules.specs.Judged.{contest, HasResources};
 ghost use Rattle.refute_check.specs.Counting.{are_of_class, has_resource, is_of_class, is_used};
 
+use crate::whole::is_whole;
 use box_split::BoxBuf;
 use problem::Problem;
 use res_base::{Items, VarSet};
@@ -19,23 +20,26 @@ use search_api::Class;
 
 /// Whether a set of variables shows a box: all are signals of the class, and they are more than their resources.
 pub(crate) fn shows_hall(p: &Problem, class: Class, vars: &VarSet, b: &BoxBuf) -> bool
-    requires { IsBox p.now.shape (box_in p.now.shape b.now) }
+    requires whole { p.now.first ≢ 0 }
+    requires is_box { IsBox p.now.shape (box_in p.now.shape b.now) }
     ensures { result ≡ shows_hall p.now.tables class (contest p.now class (box_in p.now.shape b.now)) vars.now }
 {
-    is_ready(p);
+    is_whole(p);
     let parts = p.parts();
     let t = parts.tables.parts();
     let uses = parts.uses.as_slice();
     let first = parts.first as usize;
-    are_too_many(t, class, vars, first, uses, &b.lo[first..], &b.hi[first..])
+    let lo = ends_from(&b.lo, first);
+    let hi = ends_from(&b.hi, first);
+    are_too_many(t, class, vars, first, uses, lo, hi)
 }
 
-/// That a problem has what the counts rest on.
-fn is_ready(p: &Problem)
-    ensures { IsReady p.now }
+/// The ends of the runs of a variable and those after it.
+fn ends_from(ends: &[u16; 170], first: usize) -> &[u16]
+    requires { first ≤ 170 }
+    ensures { result.now ≡ drop first ends.now }
 {
-    p.parts_agree();
-    p.parts().tables.keeps_rules();
+    &ends[first..]
 }
 
 /// Whether variables are all signals of the class, and more than the resources that they have together.

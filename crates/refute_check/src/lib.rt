@@ -7,6 +7,7 @@ mod laws;
 mod limits;
 mod rules;
 mod stack;
+mod whole;
 
 pub use checker::check;
 pub use laws::{accepted_proof_answers, accepted_proof_has_no_fault};

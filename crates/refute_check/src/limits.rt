@@ -5,6 +5,7 @@ ghost use Rattle.box_split.specs.BoxIn.{box_in};
 ghost use Rattle.res_model.specs.Ranges.{shows_limit};
 ghost use Rattle.box_rules.specs.Judged.{clock_box};
 
+use crate::whole::is_whole;
 use box_split::BoxBuf;
 use clock_limits::{ClockBox, is_shown};
 use problem::Problem;
@@ -15,7 +16,7 @@ pub(crate) fn shows_limit(p: &Problem, limit: u8, b: &BoxBuf) -> bool
     requires is_box { IsBox p.now.shape (box_in p.now.shape b.now) }
     ensures { result ≡ shows_limit p.now.tables p.now.facts p.now.clock (clock_box (box_in p.now.shape b.now)) limit }
 {
-    p.parts_agree();
+    is_whole(p);
     let parts = p.parts();
     let values = parts.clock.as_slice();
     is_shown(&parts.tables, &parts.facts, values, &clock_box(b), limit)

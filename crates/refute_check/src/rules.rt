@@ -1,7 +1,5 @@
 //! What a node has to say of its box.
 ghost use Rattle.std.specs.Prelude.{◌≡◌, ◌≢◌};
-ghost use Rattle.choice_rank.specs.Choices.{IsChoice};
-ghost use Rattle.problem.specs.Meets.{meets};
 ghost use Rattle.box_split.specs.Boxes.{IsBox, low_of};
 ghost use Rattle.box_split.specs.BoxIn.{box_in};
 ghost use Rattle.box_rules.specs.Judged.{shows_whole, whole_meaning};
@@ -62,7 +60,7 @@ fn is_witness(p: &Problem, bound: Option<u64>, b: &BoxBuf) -> bool
         return false;
     };
     let shape = &p.parts().shape;
-    is_single(shape, b) && meets(p, lows(shape, b)) && low(shape, b) == rank
+    is_single(shape, b) && p.meets(lows(shape, b)) && low(shape, b) == rank
 }
 
 /// Whether a node is a leaf that names a witness.
@@ -70,12 +68,4 @@ pub(crate) fn is_witness_leaf(node: Node) -> bool
     ensures { result ≡ is_witness_leaf node }
 {
     matches!(node, Node::Witness)
-}
-
-fn meets(p: &Problem, at: &[u16]) -> bool
-    requires { IsChoice p.now.shape at.now }
-    ensures { result ≡ meets p.now at.now }
-{
-    let _ = p;
-    false
 }

@@ -1,16 +1,15 @@
-use Rattle.std.proofs.Common.{◌≡◌, ◌+◌, ◌<◌, List, [], ◌∷◌, ◌++◌, length, get_or, true, false, sym, ap, subst, ◌∙◌, arith}
+use Rattle.std.proofs.Common.{◌≡◌, ◌<◌, List, [], ◌∷◌, ◌++◌, length, get_or, sym, ap, subst, ◌∙◌, arith}
 use Rattle.std.proofs.lemmas.Bool.Decides.{nat_tests}
 use Rattle.std.proofs.lemmas.List.{nil_from_length}
 use Rattle.choice_rank.specs.declared.variable.VarShape.{VarShape}
 use Rattle.box_split.specs.declared.buffer.BoxBuf.{BoxBuf}
 use Rattle.box_split.specs.BoxIn.{box_in}
-use Rattle.box_split.specs.Boxes.{Run}
 use Rattle.problem.specs.declared.parts.ProblemParts.{ProblemParts}
 use Rattle.box_rules.specs.Judged.{whole_meaning}
 use Rattle.refutation.specs.declared.node.Node.{Node}
 use Rattle.refutation.specs.declared.node.Node.TheVariants as node
 use Rattle.refute_check.specs.Due.{boxes_of, AreBoxes}
-use Rattle.refute_check.specs.Faults.{keeps_rule, parts_of}
+use Rattle.refute_check.specs.Faults.{parts_of}
 use Rattle.refute_check.proofs.LoopLemmas.{StandsAt, none_due, broken, stands_next, ended, ended_early}
 use Rattle.refute_check.proofs.checker.first_broken.Goals as goal
 use Rattle.refute_check.proofs.checker.first_broken.Goals.{In-Some}

@@ -37,7 +37,7 @@ loop-s-preserved c r =
     elim c.if-is_in.branch [
       | then-is_in w ↦
           let here : w.uses_in.result.now ≡ uses_in (get_or uses s []) record { low = get_or c.args.lo.now s 0; high = get_or c.args.hi.now s 0 } =
-            w.uses_in.ensures ∙ ap (λ (us : List PinUse). uses_in us record { low = get_or c.args.lo.now s 0; high = get_or c.args.hi.now s 0 }) c.uses_of-us.ensures in
+          w.uses_in.ensures ∙ ap (λ (us : List PinUse). uses_in us record { low = get_or c.args.lo.now s 0; high = get_or c.args.hi.now s 0 }) c.uses_of-us.ensures in
           let more = ap (λ (f : VarSet). in_set f r) w.found-is ∙ w.add_resources.ensures r ∙ ap (λ (us : List PinUse). in_set c.loop-s.found r || has_resource c.args.t.now c.args.class us r) here in
           counted c.args.t.now c.args.class c.args.vars.now c.args.first uses c.args.lo.now c.args.hi.now c.requires.low c.requires.high s r (in_set c.loop-s.found r) (in_set c.if-is_in.found r) c.loop-s-test.true (sym i ∙ w.if-is_in.true) more
           ∙ c.loop-s.invariant r

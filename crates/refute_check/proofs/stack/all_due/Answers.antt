@@ -1,11 +1,10 @@
-use Rattle.std.proofs.Common.{◌≡◌, List, [], ◌∷◌, ◌++◌, Option, Some, sym, ap, ◌∙◌, refl}
+use Rattle.std.proofs.Common.{◌≡◌, List, [], ◌∷◌, ◌++◌, sym, ap, ◌∙◌, refl}
 use Rattle.box_split.specs.declared.buffer.BoxBuf.{BoxBuf}
 use Rattle.box_split.specs.BoxIn.{box_in}
 use Rattle.box_split.specs.Boxes.{Run, whole}
 use Rattle.box_split.proofs.PrefixLemmas.{same_box}
 use Rattle.box_split.proofs.RunLemmas.{box_root}
 use Rattle.refute_check.specs.Due.{boxes_of}
-use Rattle.refute_check.proofs.StackLemmas.{boxes_push}
 use Rattle.refute_check.proofs.stack.all_due.Goals as goal
 
 pub of_path-requires : goal.of_path-requires

@@ -1,4 +1,4 @@
-use Rattle.std.proofs.Common.{◌<◌, ◌^◌, length, get_or, arith}
+use Rattle.std.proofs.Common.{length, arith}
 use Rattle.refute_check.proofs.StackLemmas.{high_part_at, split_within}
 use Rattle.refute_check.proofs.stack.high_part.Goals as goal
 

@@ -1,10 +1,9 @@
-use Rattle.std.proofs.Common.{◌≡◌, List, ◌∷◌, true, sym, ap, subst, ◌∙◌}
+use Rattle.std.proofs.Common.{◌≡◌, List, true, sym, subst}
 use Rattle.box_split.specs.BoxIn.{box_in}
 use Rattle.box_split.specs.Boxes.{Run}
 use Rattle.refutation.specs.declared.node.Node.{Node}
-use Rattle.refutation.specs.Trees.{low_part, high_part}
-use Rattle.refute_check.specs.Due.{boxes_of, can_part, AreBoxes}
-use Rattle.refute_check.specs.Faults.{can_split, parts_of}
+use Rattle.refute_check.specs.Due.{can_part, AreBoxes}
+use Rattle.refute_check.specs.Faults.{can_split}
 use Rattle.refute_check.proofs.StackLemmas.{parts_pushed, parts_are_boxes}
 use Rattle.refute_check.proofs.stack.push_parts.Goals as goal
 
