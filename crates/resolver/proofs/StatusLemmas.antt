@@ -1,7 +1,8 @@
 -- The status of a problem is none of those that only reading, writing or want of memory has.
-use Rattle.std.proofs.Common.{◌≡◌, ◌≢◌, ℕ, List, ◌+◌, Bool, subst, sym, arith}
+use Rattle.std.proofs.Common.{◌≡◌, ◌≢◌, ℕ, List, ◌+◌, Bool, Option, subst, sym, arith}
 use Rattle.problem.specs.declared.parts.ProblemParts.{ProblemParts}
-use Rattle.solver.specs.Owed.{OfPins, OfProblem, OfProof, OfWhole}
+use Rattle.refutation.specs.declared.node.Node.{Node}
+use Rattle.solver.specs.Owed.{OfNodes, OfPins, OfProblem, OfProof, OfWhole}
 use Rattle.solver.specs.Owed as owed
 use Rattle.resolver.specs.Owed.{IsOfContents}
 
@@ -32,7 +33,10 @@ pub of_whole : (proof : Bool) (p : ProblemParts) (s : ℕ) (x : List ℕ) → Of
 of_whole proof p s x (owed.solved c more low asked e f) = at s 0 e zero
 of_whole proof p s x (owed.refuted no_legal shown e) = at s 1 e one
 
+of_nodes : (p : ProblemParts) (bound : Option ℕ) (nodes : List Node) (s : ℕ) (x : List ℕ) → OfNodes p bound nodes s x → IsOfContents s
+of_nodes p bound nodes s x (owed.rejected node e says) = at s 10 says.0 ten
+of_nodes p bound nodes s x (owed.accepted e says) = at s 0 says.0 zero
+
 pub of_proof : (text : List ℕ) (p : ProblemParts) (s : ℕ) (x : List ℕ) → OfProof text p s x → IsOfContents s
 of_proof text p s x (owed.unread line e says) = at s 10 says.0 ten
-of_proof text p s x (owed.rejected bound nodes node e f says) = at s 10 says.0 ten
-of_proof text p s x (owed.accepted bound nodes e f says) = at s 0 says.0 zero
+of_proof text p s x (owed.nodes bound read e due) = of_nodes p bound read s x due
