@@ -1,0 +1,5 @@
+mod FrontLemmas
+mod NumberLemmas
+mod RegisterLemmas
+mod LineLemmas
+mod ReadLemmas
