@@ -1,5 +1,5 @@
 -- The lines of ops: one op has each of them, and each is a line.
-use Rattle.std.proofs.Common.{◌≡◌, ◌≢◌, ℕ, suc, ◌+◌, ◌/◌, ◌%◌, ◌^◌, ◌<◌, ◌≤◌, List, [], ◌∷◌, ◌++◌, Bool, true, false, cond, eqb, get_or, length, inl, inr, refl, sym, ap, ◌∙◌, append_assoc, arith}
+use Rattle.std.proofs.Common.{◌≡◌, ◌≢◌, ℕ, zero, suc, ◌+◌, ◌/◌, ◌%◌, ◌^◌, ◌<◌, ◌≤◌, List, [], ◌∷◌, ◌++◌, Bool, true, false, cond, eqb, get_or, take, length, inl, inr, refl, sym, ap, ◌∙◌, append_assoc, arith}
 use Rattle.std.specs.Prelude.{decimal, map}
 use Rattle.std.specs.List.{concat}
 use Rattle.std.proofs.lemmas.Bool.Decides.{nat_tests}
@@ -73,25 +73,25 @@ fifth t = get_or t 4 0
 
 -- ---- one op has each line
 -- what follows the address
-abbrev write_rest : ℕ → List ℕ
+abbrev pub write_rest : ℕ → List ℕ
 write_rest v = number_after part.Gets v ++ part_text part.End
 
-abbrev set_rest : ℕ → List ℕ
+abbrev pub set_rest : ℕ → List ℕ
 set_rest s = number_after part.Or s ++ part_text part.End
 
-abbrev clear_rest : ℕ → ℕ → List ℕ
+abbrev pub clear_rest : ℕ → ℕ → List ℕ
 clear_rest c s = number_after part.ButNot c ++ set_rest s
 
-abbrev modify_rest : Reg → ℕ → ℕ → List ℕ
+abbrev pub modify_rest : Reg → ℕ → ℕ → List ℕ
 modify_rest r c s = register_after part.GetsOld r ++ clear_rest c s
 
-abbrev limit_rest : ℕ → Timeout → List ℕ
+abbrev pub limit_rest : ℕ → Timeout → List ℕ
 limit_rest n name = count n ++ await_end name
 
-abbrev want_rest : ℕ → ℕ → Timeout → List ℕ
+abbrev pub want_rest : ℕ → ℕ → Timeout → List ℕ
 want_rest w n name = number_after part.IsNot w ++ (part_text part.AtMost ++ limit_rest n name)
 
-abbrev await_rest : ℕ → ℕ → ℕ → Timeout → List ℕ
+abbrev pub await_rest : ℕ → ℕ → ℕ → Timeout → List ℕ
 await_rest m w n name = number_after part.Under m ++ want_rest w n name
 
 same_write : (r s : Reg) (v w : ℕ) (xs ys : List ℕ) → FitsLine (op.Write r v) → FitsLine (op.Write s w) → op_line (op.Write r v) ++ xs ≡ op_line (op.Write s w) ++ ys → (op.Write r v ≡ op.Write s w) × (xs ≡ ys)
@@ -286,7 +286,7 @@ await_end_line timeout.Switch = refl
 then_line : (p : Part) → clean (part_text p) ≡ true → (n : ℕ) (rest : List ℕ) → is_line rest ≡ true → is_line (number_after p n ++ rest) ≡ true
 then_line p h n rest k = line_append (number_after p n) rest (number_clean p h n) k
 
-abbrev IsLine : List ℕ → Type 0
+abbrev pub IsLine : List ℕ → Type 0
 IsLine l = is_line l ≡ true
 
 op_is_line : (o : Op) → FitsLine o → IsLine (op_line o)
@@ -350,6 +350,14 @@ concat_append (x ∷ xs) ys = ap (λ zs. x ++ zs) (concat_append xs ys) ∙ sym 
 
 pub after_frame_lines : (rest : List ℕ) → lines_of (concat frame ++ rest) ≡ frame ++ lines_of rest
 after_frame_lines rest = lines_then frame rest frame_is_lines
+
+each_take : (P : List ℕ → Type 0) (n : ℕ) (xs : List (List ℕ)) → Each P xs → Each P (take n xs)
+each_take P zero xs h = tt
+each_take P (suc n) [] h = tt
+each_take P (suc n) (x ∷ xs) h = (h.0, each_take P n xs h.1)
+
+pub frame_front : (n : ℕ) (rest : List ℕ) → lines_of (concat (take n frame) ++ rest) ≡ take n frame ++ lines_of rest
+frame_front n rest = lines_then (take n frame) rest (each_take IsLine n frame frame_is_lines)
 
 pub ops_then_lines : (ops : List Op) (rest : List ℕ) → Each FitsLine ops → lines_of (concat (map op_line ops) ++ rest) ≡ map op_line ops ++ lines_of rest
 ops_then_lines ops rest f = lines_then (map op_line ops) rest (ops_are_lines ops f)

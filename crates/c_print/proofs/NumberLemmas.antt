@@ -1,6 +1,7 @@
 -- Numbers as they are spelled.
 use Rattle.std.proofs.Common.{◌≡◌, ◌≢◌, ℕ, zero, suc, ◌+◌, ◌-◌, ◌*◌, ◌/◌, ◌%◌, ◌^◌, ◌<◌, ◌≤◌, List, [], ◌∷◌, ◌++◌, Bool, true, false, cond, eqb, ltb, length, take, drop, Option, Some, None, inl, inr, refl, sym, ap, subst, ◌∙◌, append_assoc, arith}
-use Rattle.std.specs.Prelude.{decimal, position, codes, IfSome, IfNone}
+use Rattle.std.specs.Prelude.{decimal, position, MatchOption}
+use denote.Ref.{Bor}
 use Rattle.std.specs.List.{position_or_len}
 use Rattle.std.proofs.lemmas.Bool.Decides.{nat_tests}
 use Rattle.std.proofs.lemmas.Fmt.{decimal_by_steps, decimal_injective}
@@ -15,7 +16,7 @@ use Rattle.c_print.specs.declared.part.Part.{Part}
 use Rattle.c_print.specs.declared.part.Part.TheVariants as part
 use Rattle.c_print.specs.Text.{part_text, digit, digits_1, halves, digits_2, digits_4, digits_8, hex, number_after, count}
 use Rattle.c_print.specs.Fronts.{Begins, BeginsNone, Below, IsCount}
-use Rattle.c_print.proofs.FrontLemmas.{TellsApart, after_both, past_text, none_text, join}
+use Rattle.c_print.proofs.FrontLemmas.{TellsApart, after_both, past_text, none_text, join, past, none_first}
 
 -- ---- digits
 digit_same : (n m : ℕ) → digit n ≡ digit m → n ≡ m
@@ -212,3 +213,71 @@ module _ (text : List ℕ) (i : ℕ) (p : position (λ b. eqb b 117) text ≡ So
     fits = f;
     is = cut.is ∙ ap (λ ds. ds ++ 117 ∷ drop (i + 1) text) is ∙ sym (count_is n (drop (i + 1) text)) ∙ ap (λ xs. count n ++ xs) (sym (left_is text i));
   }
+
+-- ---- what a text begins with, digit by digit
+pub digits_2_none : (text : List ℕ) → BeginsNone digits_1 (Below 16) text → BeginsNone digits_2 (Below 256) text
+unfolding digits_2
+digits_2_none = halves_none 16 digits_1 (omega arith)
+
+pub digits_2_half : (text : List ℕ) (high : ℕ) (more : List ℕ) → Begins digits_1 (Below 16) text high more → BeginsNone digits_1 (Below 16) more → BeginsNone digits_2 (Below 256) text
+unfolding digits_2
+digits_2_half = halves_half 16 digits_1 (omega arith) digits_1_apart
+
+pub digits_2_found : (text : List ℕ) (high low : ℕ) (more rest : List ℕ) → Begins digits_1 (Below 16) text high more → Begins digits_1 (Below 16) more low rest → Begins digits_2 (Below 256) text (high * 16 + low) rest
+unfolding digits_2
+digits_2_found text high low more rest a b = record { fits = omega (arith, a.fits, b.fits); is = halves_are 16 digits_1 (omega arith) text high low more rest a.is b.is b.fits }
+
+pub digits_4_none : (text : List ℕ) → BeginsNone digits_2 (Below 256) text → BeginsNone digits_4 (Below 65536) text
+unfolding digits_4
+digits_4_none = halves_none 256 digits_2 (omega arith)
+
+pub digits_4_half : (text : List ℕ) (high : ℕ) (more : List ℕ) → Begins digits_2 (Below 256) text high more → BeginsNone digits_2 (Below 256) more → BeginsNone digits_4 (Below 65536) text
+unfolding digits_4
+digits_4_half = halves_half 256 digits_2 (omega arith) digits_2_apart
+
+pub digits_4_found : (text : List ℕ) (high low : ℕ) (more rest : List ℕ) → Begins digits_2 (Below 256) text high more → Begins digits_2 (Below 256) more low rest → Begins digits_4 (Below 65536) text (high * 256 + low) rest
+unfolding digits_4
+digits_4_found text high low more rest a b = record { fits = omega (arith, a.fits, b.fits); is = halves_are 256 digits_2 (omega arith) text high low more rest a.is b.is b.fits }
+
+pub digits_8_none : (text : List ℕ) → BeginsNone digits_4 (Below 65536) text → BeginsNone digits_8 (Below (2 ^ 32)) text
+unfolding digits_8
+digits_8_none = halves_none 65536 digits_4 (omega arith)
+
+pub digits_8_half : (text : List ℕ) (high : ℕ) (more : List ℕ) → Begins digits_4 (Below 65536) text high more → BeginsNone digits_4 (Below 65536) more → BeginsNone digits_8 (Below (2 ^ 32)) text
+unfolding digits_8
+digits_8_half = halves_half 65536 digits_4 (omega arith) digits_4_apart
+
+pub digits_8_found : (text : List ℕ) (high low : ℕ) (more rest : List ℕ) → Begins digits_4 (Below 65536) text high more → Begins digits_4 (Below 65536) more low rest → Begins digits_8 (Below (2 ^ 32)) text (high * 65536 + low) rest
+unfolding digits_8
+digits_8_found text high low more rest a b = record { fits = omega (arith, a.fits, b.fits); is = halves_are 65536 digits_4 (omega arith) text high low more rest a.is b.is b.fits }
+
+-- ---- and word by word
+pub hex_none : (text : List ℕ) → ((rest : List ℕ) → text ≢ part_text part.Hex ++ rest) → BeginsNone hex (Below (2 ^ 32)) text
+unfolding hex
+hex_none text none n rest f e = none_text (part_text part.Hex) (digits_8 n ++ part_text part.Unsigned) rest text none e
+
+module _ (text first : List ℕ) (b : text ≡ part_text part.Hex ++ first) where
+  digits_next : (n : ℕ) (rest : List ℕ) → text ≡ hex n ++ rest → first ≡ (digits_8 n ++ part_text part.Unsigned) ++ rest
+  unfolding hex
+  digits_next n rest e = past_text (part_text part.Hex) first (digits_8 n ++ part_text part.Unsigned) rest text b e
+
+  pub hex_no_digits : BeginsNone digits_8 (Below (2 ^ 32)) first → BeginsNone hex (Below (2 ^ 32)) text
+  hex_no_digits none n rest f e = none_first digits_8 (Below (2 ^ 32)) first n (part_text part.Unsigned) rest none f (digits_next n rest e)
+
+  module _ (m : ℕ) (more : List ℕ) (d : Begins digits_8 (Below (2 ^ 32)) first m more) where
+    pub hex_no_suffix : ((rest : List ℕ) → more ≢ part_text part.Unsigned ++ rest) → BeginsNone hex (Below (2 ^ 32)) text
+    hex_no_suffix none n rest f e = none rest (past digits_8 (Below (2 ^ 32)) digits_8_apart first m more n (part_text part.Unsigned) rest d f (digits_next n rest e)).1
+
+    pub hex_found : (rest : List ℕ) → more ≡ part_text part.Unsigned ++ rest → Begins hex (Below (2 ^ 32)) text m rest
+    unfolding hex
+    hex_found rest u = record {
+      fits = d.fits;
+      is = join (part_text part.Hex) (digits_8 m ++ part_text part.Unsigned) first rest text b (join (digits_8 m) (part_text part.Unsigned) more rest first d.is u);
+    }
+
+-- a word behind a text, from a word where the text ends
+pub number_answer : (before : Part) (text rest : List ℕ) (o : Option (ℕ × Bor (List ℕ))) → text ≡ part_text before ++ rest →
+    MatchOption o (BeginsNone hex (Below (2 ^ 32)) rest) (λ x. Begins hex (Below (2 ^ 32)) rest x.0 x.1.now) →
+    MatchOption o (BeginsNone (number_after before) (Below (2 ^ 32)) text) (λ x. Begins (number_after before) (Below (2 ^ 32)) text x.0 x.1.now)
+number_answer before text rest None b none = λ n more f e. none n more f (past_text (part_text before) rest (hex n) more text b e)
+number_answer before text rest (Some x) b found = record { fits = found.fits; is = join (part_text before) (hex x.0) rest x.1.now text b found.is }

@@ -10,7 +10,7 @@ use Rattle.c_print.specs.declared.part.Part.TheVariants as part
 use Rattle.c_print.specs.Text.{part_text, op_line, frame, last_lines, body_lines, c_lines, c_text_of}
 use Rattle.c_print.specs.Reading.{FitsLine, lines_of, AgreesFor, DepartsAt, Reads}
 use Rattle.c_print.specs.Fronts.{BeginsNone}
-use Rattle.c_print.proofs.LineLemmas.{op_apart, not_return, joined, lines_then, after_frame_lines, ops_then_lines, return_then, close_then, text_parts, text_lines}
+use Rattle.c_print.proofs.LineLemmas.{op_apart, not_return, joined, lines_then, after_frame_lines, frame_front, ops_then_lines, return_then, close_then, text_parts, text_lines}
 
 -- ---- six lines more, and a line for each op more
 abbrev six : ℕ → ℕ
@@ -144,13 +144,8 @@ place_line n [] ys zs l e = absurd (omega arith)
 place_line zero (x ∷ xs) ys zs l e = e
 place_line (suc n) (x ∷ xs) ys zs l e = place_line n xs ys zs (omega arith) (head_same x x (take (suc n) (take n xs ++ ys)) (take (suc n) (xs ++ zs)) e).1
 
-each_take : (P : List ℕ → Type 0) (n : ℕ) (xs : List (List ℕ)) → Each P xs → Each P (take n xs)
-each_take P zero xs h = tt
-each_take P (suc n) [] h = tt
-each_take P (suc n) (x ∷ xs) h = (h.0, each_take P n xs h.1)
-
-pub within_frame : (text : List ℕ) (place : ℕ) (rest : List ℕ) (line : ℕ) → place < 6 → lines_of text ≡ take place frame ++ lines_of rest → ((more : List ℕ) → rest ≢ get_or frame place [] ++ more) → line ≡ place + 1 → DepartsAt line text
-within_frame text place rest line l lines none n =
+pub within_frame : (text : List ℕ) (place : ℕ) (rest : List ℕ) (line : ℕ) → place < 6 → text ≡ concat (take place frame) ++ rest → ((more : List ℕ) → rest ≢ get_or frame place [] ++ more) → line ≡ place + 1 → DepartsAt line text
+within_frame text place rest line l t none n =
     let one : line - 1 ≡ place = omega (arith, n) in
     let two : line ≡ suc place = omega (arith, n) in
     record {
@@ -159,6 +154,9 @@ within_frame text place rest line l lines none n =
       not_here = λ a. differs (subst (λ m. AgreesFor m text) two a);
     }
   where
+    lines : lines_of text ≡ take place frame ++ lines_of rest
+    lines = ap lines_of t ∙ frame_front place rest
+
     differs : AgreesFor (suc place) text → ⊥
     differs a =
         let here = place_line place frame (lines_of rest) (body_lines a.0) (omega (arith, l)) (sym (ap (take (suc place)) lines) ∙ a.2) in

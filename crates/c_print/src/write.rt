@@ -119,6 +119,7 @@ fn put_limit(alloc: Global, out: &mut Vec<u8>, polls: u32, name: Timeout) -> Res
 }
 
 /// A word after a text.
+#[tactic(auto, unfolding(crate::specs::Text::hex))]
 fn put_number(out: &mut Vec<u8>, before: Part, n: u32) -> Result<(), OutOfMemory>
     ensures { OnOk result (out.new.items ≡ out.old.items ++ number_after before n) }
 {
@@ -135,6 +136,7 @@ fn put_part(out: &mut Vec<u8>, part: Part) -> Result<(), OutOfMemory>
     Ok(())
 }
 
+#[tactic(auto, unfolding(crate::specs::Text::digits_8))]
 fn put_digits_8(out: &mut Vec<u8>, n: u32) -> Result<(), OutOfMemory>
     ensures { OnOk result (out.new.items ≡ out.old.items ++ digits_8 n) }
 {
@@ -142,6 +144,7 @@ fn put_digits_8(out: &mut Vec<u8>, n: u32) -> Result<(), OutOfMemory>
     put_digits_4(out, n % 0x1_0000)
 }
 
+#[tactic(auto, unfolding(crate::specs::Text::digits_4))]
 fn put_digits_4(out: &mut Vec<u8>, n: u32) -> Result<(), OutOfMemory>
     requires { n < 65536 }
     ensures { OnOk result (out.new.items ≡ out.old.items ++ digits_4 n) }
@@ -150,6 +153,7 @@ fn put_digits_4(out: &mut Vec<u8>, n: u32) -> Result<(), OutOfMemory>
     put_digits_2(out, n % 0x100)
 }
 
+#[tactic(auto, unfolding(crate::specs::Text::digits_2))]
 fn put_digits_2(out: &mut Vec<u8>, n: u32) -> Result<(), OutOfMemory>
     requires { n < 256 }
     ensures { OnOk result (out.new.items ≡ out.old.items ++ digits_2 n) }
