@@ -3,7 +3,7 @@ use Rattle.std.proofs.Common.{◌≡◌, ◌≢◌, ℕ, zero, suc, ◌+◌, ◌
 use Rattle.std.specs.Prelude.{decimal, map}
 use Rattle.std.specs.List.{concat}
 use Rattle.std.proofs.lemmas.Bool.Decides.{nat_tests}
-use Rattle.std.proofs.lemmas.List.{append_cancel_left, append-nil, length-append}
+use Rattle.std.proofs.lemmas.List.{append_cancel_left, length-append}
 use Rattle.res_base.specs.Lists.{Each}
 use Rattle.res_base.proofs.SumLemmas.{bool_cases}
 use Rattle.reg_map.specs.declared.register.Reg.{Reg}

@@ -1,16 +1,15 @@
 -- Where a text departs from every C text, and that a text has one reading.
-use Rattle.std.proofs.Common.{◌≡◌, ◌≢◌, ℕ, zero, suc, ◌+◌, ◌-◌, ◌<◌, ◌≤◌, List, [], ◌∷◌, ◌++◌, length, take, drop, get_or, ◌⊎◌, inl, inr, refl, sym, ap, subst, ◌∙◌, append_assoc, arith}
+use Rattle.std.proofs.Common.{◌≡◌, ◌≢◌, ℕ, zero, suc, ◌+◌, ◌-◌, ◌<◌, ◌≤◌, List, [], ◌∷◌, ◌++◌, length, take, get_or, ◌⊎◌, inl, inr, refl, sym, ap, subst, ◌∙◌, arith}
 use Rattle.std.specs.Prelude.{map, Result, Ok, Err}
 use Rattle.std.specs.List.{concat}
 use Rattle.std.proofs.lemmas.List.{append_cancel_left, append-nil, take-take}
 use Rattle.res_base.specs.Lists.{Each}
 use Rattle.reg_machine.specs.declared.op.Op.{Op}
-use Rattle.c_print.specs.declared.part.Part.{Part}
 use Rattle.c_print.specs.declared.part.Part.TheVariants as part
 use Rattle.c_print.specs.Text.{part_text, op_line, frame, last_lines, body_lines, c_lines, c_text_of}
 use Rattle.c_print.specs.Reading.{FitsLine, lines_of, AgreesFor, DepartsAt, Reads}
 use Rattle.c_print.specs.Fronts.{BeginsNone}
-use Rattle.c_print.proofs.LineLemmas.{op_apart, not_return, joined, lines_then, after_frame_lines, frame_front, ops_then_lines, return_then, close_then, text_parts, text_lines}
+use Rattle.c_print.proofs.LineLemmas.{op_apart, not_return, joined, after_frame_lines, frame_front, ops_then_lines, return_then, close_then, text_parts, text_lines}
 
 -- ---- six lines more, and a line for each op more
 abbrev six : ℕ → ℕ

@@ -1,5 +1,5 @@
 -- A register is told by its address.
-use Rattle.std.proofs.Common.{◌≡◌, ℕ, ◌+◌, ◌*◌, ◌-◌, ◌/◌, ◌%◌, ◌^◌, ◌<◌, ◌≤◌, List, ◌++◌, Bool, true, false, cond, eqb, refl, sym, ap, ◌∙◌, arith}
+use Rattle.std.proofs.Common.{◌≡◌, ℕ, ◌+◌, ◌*◌, ◌-◌, ◌/◌, ◌%◌, ◌^◌, ◌<◌, ◌≤◌, List, ◌++◌, false, cond, eqb, refl, sym, ap, ◌∙◌, arith}
 use Rattle.std.proofs.lemmas.Bool.Decides.{nat_tests}
 use Rattle.reg_map.specs.declared.register.GpioReg.{GpioReg}
 use Rattle.reg_map.specs.declared.register.GpioReg.TheVariants as kind
@@ -7,7 +7,7 @@ use Rattle.reg_map.specs.declared.register.Reg.{Reg}
 use Rattle.reg_map.specs.declared.register.Reg.TheVariants as reg
 use Rattle.reg_map.specs.Registers.{address, offset, IsRegister}
 use Rattle.c_print.specs.declared.part.Part.{Part}
-use Rattle.c_print.specs.Text.{hex, number_after}
+use Rattle.c_print.specs.Text.{number_after}
 use Rattle.c_print.specs.Fronts.{Begins, BeginsNone, Below}
 use Rattle.c_print.proofs.FrontLemmas.{TellsApart}
 use Rattle.c_print.proofs.NumberLemmas.{number_apart}

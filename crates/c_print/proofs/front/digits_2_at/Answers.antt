@@ -1,4 +1,4 @@
-use Rattle.std.proofs.Common.{rules, ◌^◌}
+use Rattle.std.proofs.Common.{rules}
 use Rattle.c_print.specs.Text.{digits_2}
 use Rattle.c_print.specs.Fronts.{BeginsNone, Below}
 use Rattle.c_print.proofs.NumberLemmas.{digits_2_none, digits_2_half, digits_2_found}

@@ -1,4 +1,4 @@
-use Rattle.std.proofs.Common.{rules, ◌^◌}
+use Rattle.std.proofs.Common.{rules}
 use Rattle.c_print.specs.Text.{digits_4}
 use Rattle.c_print.specs.Fronts.{BeginsNone, Below}
 use Rattle.c_print.proofs.NumberLemmas.{digits_4_none, digits_4_half, digits_4_found}

@@ -13,8 +13,8 @@ pub loop-op-preserved : goal.loop-op-preserved
 loop-op-preserved c =
     let ops = c.args.ops.now in
     let i = c.loop-op.op-index in
-    let o = get_or ops i (op.Read reg.Cr) in
-    let more : take (i + 1) ops ≡ take i ops ++ o ∷ [] = take_more ops i (op.Read reg.Cr) c.loop-op-test.true in
+    let o = get_or ops i (op.Write reg.Cr 0) in
+    let more : take (i + 1) ops ≡ take i ops ++ o ∷ [] = take_more ops i (op.Write reg.Cr 0) c.loop-op-test.true in
     let old = c.args.out.now.items in
     let before = concat (map op_line (take i ops)) in
     c.in_ok-put_op.ensures
