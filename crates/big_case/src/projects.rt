@@ -11,7 +11,9 @@ use std::alloc::Global;
 fn part() -> &'static [u8]
     ensures { result.now ≡ part }
 {
-    b"Mcu.Name=CASE\nMcu.Package=CASE\n"
+    br"Mcu.Name=CASE
+Mcu.Package=CASE
+"
 }
 
 /// The pin that the project has at a place of its list.
@@ -81,9 +83,13 @@ fn put_placed_signals(alloc: Global, out: &mut Vec<u8>) -> Result<(), OutOfMemor
 fn clock_pins() -> &'static [u8]
     ensures { result.now ≡ clock_pins }
 {
-    b"Mcu.Pin13=PH0\nPH0.Signal=OSC_IN\n\
-      Mcu.Pin14=PH1\nPH1.Signal=OSC_OUT\n\
-      Mcu.Pin15=PI0\nPI0.Signal=CASE_USB\n"
+    br"Mcu.Pin13=PH0
+PH0.Signal=OSC_IN
+Mcu.Pin14=PH1
+PH1.Signal=OSC_OUT
+Mcu.Pin15=PI0
+PI0.Signal=CASE_USB
+"
 }
 
 #[tactic(auto, unfolding(crate::specs::Case::placed_output))]

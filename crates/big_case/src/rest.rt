@@ -7,8 +7,9 @@ ghost use Rattle.big_case.specs.Rest.{clock_keys, domains, flash, limits, oscill
 pub(crate) fn oscillator() -> &'static [u8]
     ensures { result.now ≡ oscillator }
 {
-    b"\"hse_in\":\"OSC_IN\",\"hse_out\":\"OSC_OUT\",\n\
-      \"ips\":[{\"name\":\"CASE_USB\",\"clock48\":\"exact\",\"floor\":14200001}],\n"
+    br#""hse_in":"OSC_IN","hse_out":"OSC_OUT",
+"ips":[{"name":"CASE_USB","clock48":"exact","floor":14200001}],
+"#
 }
 
 /// The values that the clock variables can have (RM0090, RCC).
@@ -16,7 +17,8 @@ pub(crate) fn oscillator() -> &'static [u8]
 pub(crate) fn domains() -> &'static [u8]
     ensures { result.now ≡ domains }
 {
-    b"\"clock\":{\"m\":[2,63],\"n\":[50,432],\"p\":[2,4,6,8],\"q\":[2,15],\"hpre\":[1,2,4,8,16,64,128,256,512],\"ppre1\":[1,2,4,8,16],\"ppre2\":[1,2,4,8,16],\"vos\":[1,2]},\n"
+    br#""clock":{"m":[2,63],"n":[50,432],"p":[2,4,6,8],"q":[2,15],"hpre":[1,2,4,8,16,64,128,256,512],"ppre1":[1,2,4,8,16],"ppre2":[1,2,4,8,16],"vos":[1,2]},
+"#
 }
 
 /// The limits of the clock nodes, in hertz.
@@ -24,7 +26,8 @@ pub(crate) fn domains() -> &'static [u8]
 pub(crate) fn limits() -> &'static [u8]
     ensures { result.now ≡ limits }
 {
-    b"\"limits\":{\"crystal\":[4000000,26000000],\"bypass\":[1000000,50000000],\"vco_in\":[1000000,2000000],\"vco\":[100000000,432000000],\"sysclk\":168000000,\"pclk1\":42000000,\"pclk2\":84000000},\n"
+    br#""limits":{"crystal":[4000000,26000000],"bypass":[1000000,50000000],"vco_in":[1000000,2000000],"vco":[100000000,432000000],"sysclk":168000000,"pclk1":42000000,"pclk2":84000000},
+"#
 }
 
 /// The fastest HCLK of each voltage scale, in hertz.
@@ -32,7 +35,8 @@ pub(crate) fn limits() -> &'static [u8]
 pub(crate) fn scales() -> &'static [u8]
     ensures { result.now ≡ scales }
 {
-    b"\"scales\":[{\"vos\":1,\"max\":168000000},{\"vos\":2,\"max\":144000000}],\n"
+    br#""scales":[{"vos":1,"max":168000000},{"vos":2,"max":144000000}],
+"#
 }
 
 /// The wait states of the flash by supply, in millivolts, and HCLK, in hertz.
@@ -40,11 +44,12 @@ pub(crate) fn scales() -> &'static [u8]
 pub(crate) fn flash() -> &'static [u8]
     ensures { result.now ≡ flash }
 {
-    b"\"flash\":[\n\
-      {\"from\":1800,\"to\":2099,\"prefetch\":false,\"rows\":[20000000,40000000,60000000,80000000,100000000,120000000,140000000,160000000]},\n\
-      {\"from\":2100,\"to\":2399,\"prefetch\":true,\"rows\":[22000000,44000000,66000000,88000000,110000000,132000000,154000000,168000000]},\n\
-      {\"from\":2400,\"to\":2699,\"prefetch\":true,\"rows\":[24000000,48000000,72000000,96000000,120000000,144000000,168000000]},\n\
-      {\"from\":2700,\"to\":3600,\"prefetch\":true,\"rows\":[30000000,60000000,90000000,120000000,150000000,168000000]}],\n"
+    br#""flash":[
+{"from":1800,"to":2099,"prefetch":false,"rows":[20000000,40000000,60000000,80000000,100000000,120000000,140000000,160000000]},
+{"from":2100,"to":2399,"prefetch":true,"rows":[22000000,44000000,66000000,88000000,110000000,132000000,154000000,168000000]},
+{"from":2400,"to":2699,"prefetch":true,"rows":[24000000,48000000,72000000,96000000,120000000,144000000,168000000]},
+{"from":2700,"to":3600,"prefetch":true,"rows":[30000000,60000000,90000000,120000000,150000000,168000000]}],
+"#
 }
 
 /// Where the clock tree stands without a project.
@@ -52,7 +57,8 @@ pub(crate) fn flash() -> &'static [u8]
 pub(crate) fn start() -> &'static [u8]
     ensures { result.now ≡ start }
 {
-    b"\"defaults\":{\"src\":\"HSI\",\"psrc\":\"HSI\",\"hpre\":1,\"p\":2,\"m\":16,\"n\":192,\"q\":4,\"ppre1\":1,\"ppre2\":1,\"vos\":1,\"hse\":8000000}}\n"
+    br#""defaults":{"src":"HSI","psrc":"HSI","hpre":1,"p":2,"m":16,"n":192,"q":4,"ppre1":1,"ppre2":1,"vos":1,"hse":8000000}}
+"#
 }
 
 /// The clock tree of the project.
@@ -60,12 +66,13 @@ pub(crate) fn start() -> &'static [u8]
 pub(crate) fn clock_keys() -> &'static [u8]
     ensures { result.now ≡ clock_keys }
 {
-    b"RCC.APB1CLKDivider=RCC_HCLK_DIV4\n\
-      RCC.APB2CLKDivider=RCC_HCLK_DIV2\n\
-      RCC.HSE_VALUE=8000000\n\
-      RCC.PLLM=8\n\
-      RCC.PLLN=336\n\
-      RCC.PLLQ=4\n\
-      RCC.PLLSourceVirtual=RCC_PLLSOURCE_HSE\n\
-      RCC.SYSCLKSource=RCC_SYSCLKSOURCE_PLLCLK\n"
+    br"RCC.APB1CLKDivider=RCC_HCLK_DIV4
+RCC.APB2CLKDivider=RCC_HCLK_DIV2
+RCC.HSE_VALUE=8000000
+RCC.PLLM=8
+RCC.PLLN=336
+RCC.PLLQ=4
+RCC.PLLSourceVirtual=RCC_PLLSOURCE_HSE
+RCC.SYSCLKSource=RCC_SYSCLKSOURCE_PLLCLK
+"
 }

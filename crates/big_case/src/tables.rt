@@ -1,5 +1,5 @@
 //! The table.
-ghost use Rattle.std.specs.Prelude.{◌≡◌, ◌<◌, ◌++◌, ℕ, IfOk, OnOk};
+ghost use Rattle.std.specs.Prelude.{◌≡◌, ◌<◌, ◌++◌, IfOk, OnOk};
 ghost use Rattle.big_case.specs.Case.{before_name, before_rows, head, joined, last_pins, last_signals, listed_pin, moving_signal, needed_signals, rest, row, signal_row, table_text, two_rows};
 
 use crate::pins::{put_pin, signal_name};
@@ -11,7 +11,9 @@ use std::alloc::Global;
 fn head() -> &'static [u8]
     ensures { result.now ≡ head }
 {
-    b"{\"version\":1,\"names\":[\"CASE\"],\"package\":\"CASE\",\n\"pins\":[\n"
+    br#"{"version":1,"names":["CASE"],"package":"CASE",
+"pins":[
+"#
 }
 
 #[tactic(auto, unfolding(crate::specs::Case::listed_pin))]
@@ -39,7 +41,9 @@ fn put_pins(alloc: Global, out: &mut Vec<u8>) -> Result<(), OutOfMemory>
 fn last_pins() -> &'static [u8]
     ensures { result.now ≡ last_pins }
 {
-    b"\"PH0\",\"PH1\",\"PI0\"],\n\"signals\":[\n"
+    br#""PH0","PH1","PI0"],
+"signals":[
+"#
 }
 
 /// A pin with the alternate function that brings the signal there.
@@ -78,14 +82,14 @@ fn put_two_rows(
 fn before_name() -> &'static [u8]
     ensures { result.now ≡ before_name }
 {
-    b"{\"name\":\""
+    br#"{"name":""#
 }
 
 #[tactic(auto, unfolding(crate::specs::Case::before_rows))]
 fn before_rows() -> &'static [u8]
     ensures { result.now ≡ before_rows }
 {
-    b"\",\"use\":\"alt\",\"at\":["
+    br#"","use":"alt","at":["#
 }
 
 /// A signal that can be at either of two pins.
@@ -145,10 +149,11 @@ fn put_needed_signals(alloc: Global, out: &mut Vec<u8>, number: u64) -> Result<(
 fn last_signals() -> &'static [u8]
     ensures { result.now ≡ last_signals }
 {
-    b"{\"name\":\"OUT\",\"use\":\"output\"},\n\
-      {\"name\":\"OSC_IN\",\"use\":\"osc\",\"at\":[\"PH0\"]},\n\
-      {\"name\":\"OSC_OUT\",\"use\":\"osc\",\"at\":[\"PH1\"]},\n\
-      {\"name\":\"CASE_USB\",\"use\":\"alt\",\"ip\":\"CASE_USB\",\"at\":[[\"PI0\",10]]}],\n"
+    br#"{"name":"OUT","use":"output"},
+{"name":"OSC_IN","use":"osc","at":["PH0"]},
+{"name":"OSC_OUT","use":"osc","at":["PH1"]},
+{"name":"CASE_USB","use":"alt","ip":"CASE_USB","at":[["PI0",10]]}],
+"#
 }
 
 /// All behind the signals.
