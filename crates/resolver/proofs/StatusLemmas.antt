@@ -2,7 +2,7 @@
 use Rattle.std.proofs.Common.{◌≡◌, ◌≢◌, ℕ, List, ◌+◌, Bool, Option, subst, sym, arith}
 use Rattle.problem.specs.declared.parts.ProblemParts.{ProblemParts}
 use Rattle.refutation.specs.declared.node.Node.{Node}
-use Rattle.solver.specs.Owed.{OfNodes, OfPins, OfProblem, OfProof, OfWhole}
+use Rattle.solver.specs.Owed.{OfCase, OfNodes, OfPins, OfProblem, OfProof, OfWhole}
 use Rattle.solver.specs.Owed as owed
 use Rattle.resolver.specs.Owed.{IsOfContents}
 
@@ -32,6 +32,10 @@ ten = record { no_read_fault = λ e. omega arith; no_length = λ e. omega arith;
 pub of_whole : (proof : Bool) (p : ProblemParts) (s : ℕ) (x : List ℕ) → OfWhole proof p s x → IsOfContents s
 of_whole proof p s x (owed.solved c more low asked e f) = at s 0 e zero
 of_whole proof p s x (owed.refuted no_legal shown e) = at s 1 e one
+
+pub of_case : (number : ℕ) (p : ProblemParts) (s : ℕ) (x : List ℕ) → OfCase number p s x → IsOfContents s
+of_case number p s x (owed.made c low e f) = at s 0 e zero
+of_case number p s x (owed.unmade no_legal says) = at s 1 says.0 one
 
 of_nodes : (p : ProblemParts) (bound : Option ℕ) (nodes : List Node) (s : ℕ) (x : List ℕ) → OfNodes p bound nodes s x → IsOfContents s
 of_nodes p bound nodes s x (owed.rejected node e says) = at s 10 says.0 ten

@@ -1,9 +1,11 @@
 -- The status and the text that are due for words and files, where nothing of the outside fails.
 use Rattle.std.specs.Prelude.{◌≡◌, ℕ, List, ◌++◌, length, Bool, true, false, nat_lt, Option, Some, None, Result, Ok, Err, MatchResult, MatchBool, ⊤, codes, decimal}
+use Rattle.big_case.specs.Case.{needs, project_text, table_text}
 use Rattle.problem.specs.Problem.{problem_of}
 use Rattle.problem.specs.declared.parts.Part.TheVariants.{PinsOnly, Whole}
 use Rattle.res_model.specs.declared.command.Command.{Command}
 use Rattle.res_model.specs.declared.command.Command.TheVariants.{Pins, Tree, Resolve, Check, Case}
+use Rattle.res_model.specs.declared.command.Free.TheVariants.{All}
 use Rattle.res_model.specs.declared.command.Opts.{Opts}
 use Rattle.res_model.specs.declared.line.Line.{Line}
 use Rattle.res_model.specs.declared.project.Project.{Project}
@@ -13,7 +15,7 @@ use Rattle.res_model.specs.Project.{project_of}
 use Rattle.res_model.specs.Table.{tables_of}
 use Rattle.res_model.specs.Words.{command_of}
 use Rattle.resolver.specs.HomeTree.{fixed, home_text}
-use Rattle.solver.specs.Owed.{OfPins, OfProblem, OfProof, OfWhole}
+use Rattle.solver.specs.Owed.{OfCase, OfPins, OfProblem, OfProof, OfWhole}
 use Rattle.solver.specs.Said.{Says}
 use Rattle.resolver.specs.Refusals.{words_refusal, table_refusal, text_refusal, project_refusal}
 
@@ -60,6 +62,14 @@ ResolveTask opts proof t p s x = OfProblem (problem_of t p opts Whole) (OfWhole 
 abbrev pub CheckTask : Opts → List ℕ → Task
 CheckTask opts text t p s x = OfProblem (problem_of t p opts Whole) (OfProof text (problem_of t p opts Whole)) s x
 
+-- `case`: the least choice of a made case
+abbrev pub CaseTask : Opts → ℕ → Task
+CaseTask opts number t p s x = OfProblem (problem_of t p opts Whole) (OfCase number (problem_of t p opts Whole)) s x
+
+-- the options under which a made case is read
+abbrev pub case_opts : Opts
+case_opts = record { vdd = 3300; needs = needs; hclk = None; pclk1 = None; pclk2 = None; free = All }
+
 -- `tree`: the clock tree of the homes, which are fixed
 abbrev pub TreeTask : Opts → Task
 TreeTask opts t p s x = (s ≡ 0) × (x ≡ home_text t p opts)
@@ -86,7 +96,7 @@ OfCommand files (Pins tables project opts) s x = OfFiles tables project opts fal
 OfCommand files (Tree tables project opts) s x = OfFiles tables project (fixed opts) true (TreeTask (fixed opts)) (files tables) (files project) s x
 OfCommand files (Resolve tables project opts workers proof) s x = IfAlone workers s x (OfFiles tables project opts true (ResolveTask opts proof) (files tables) (files project) s x)
 OfCommand files (Check tables project proof opts) s x = OfThree tables project proof opts (files tables) (files project) (files proof) s x
-OfCommand files (Case number workers) s x = Says s x 11 (codes "not built: case")
+OfCommand files (Case number workers) s x = IfAlone workers s x (OfContents case_opts true (CaseTask case_opts number) (table_text number) project_text s x)
 
 abbrev pub Due : List (List ℕ) → (List ℕ → Option (List ℕ)) → ℕ → List ℕ → Type 0
 Due words files s x = MatchResult (command_of words) (λ c. OfCommand files c s x) (λ f. Says s x 2 (words_refusal f))

@@ -5,6 +5,7 @@ mod home_tree;
 mod reading;
 mod refusals;
 mod tasks;
+mod three;
 mod top;
 
 pub use top::{run, run_plain, run_surely};

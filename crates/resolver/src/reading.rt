@@ -1,19 +1,24 @@
 //! From bytes to what is due for them.
-ghost use Rattle.std.specs.Prelude.{◌≡◌, ◌≢◌, ◌≤◌, [], ◌∷◌, length, IfOk};
+ghost use Rattle.std.specs.Prelude.{◌≡◌, ◌≢◌, ◌≤◌, [], ◌∷◌, length, true, IfOk};
+ghost use Rattle.big_case.specs.Case.{project_text, table_text};
 ghost use Rattle.res_io.specs.Causes.{NoneFell};
-ghost use Rattle.resolver.specs.Due.{OfLines, OfTable, OfContents};
-ghost use Rattle.resolver.specs.Owed.{TellsFiles, TellsThree, IsOfContents, IsOwn, ReadFaultAt, TooLongAt, IsToldAt};
+ghost use Rattle.resolver.specs.Due.{CaseTask, OfLines, OfTable, OfContents, case_opts};
+ghost use Rattle.resolver.specs.Owed.{TellsFiles, IsOfContents, IsOwn, ReadFaultAt, TooLongAt, IsToldAt};
 
 use crate::refusals::{refused_project, refused_table, refused_text, unread};
-use crate::tasks::{CheckProof, Task};
+use crate::tasks::{MakeCase, Task};
+use big_case::{Case, make_case};
 use ioc_project::read_project;
 use ioc_text::{Ioc, read_ioc};
 use mcu_tables::read_tables;
 use res_base::OutOfMemory;
 use res_io::{Inputs, read_all};
-use res_model::{Opts, Tables};
+use res_model::Tables;
 use solver::Answer;
 use std::alloc::Global;
+
+/// The most bytes of a project.
+const MOST_BYTES: usize = 67_108_864;
 
 /// What is due for the lines of a project under a table.
 fn of_lines<T: Task>(
@@ -49,7 +54,7 @@ fn of_table<T: Task>(
 }
 
 /// What is due for the bytes of a table and of a project.
-fn of_contents<T: Task>(
+pub(crate) fn of_contents<T: Task>(
     alloc: Global,
     task: &T,
     table: &[u8],
@@ -92,35 +97,20 @@ pub(crate) fn of_files<I: Inputs, T: Task>(
     of_contents(alloc, task, tables.as_slice(), lines.as_slice())
 }
 
-/// Reads a table, a project and the text of a refutation, each whole, and answers whether it is accepted.
-pub(crate) fn of_three<I: Inputs>(
-    alloc: Global,
-    inputs: &mut I,
-    table: &str,
-    project: &str,
-    proof: &str,
-    opts: Opts,
-) -> Result<Answer, OutOfMemory>
-    ensures files { I.files inputs.new ≡ I.files inputs.old }
-    ensures later { NoneFell (I.faults inputs.old) (I.faults inputs.new) }
-    ensures status { IfOk result (λ a. IsOwn a.status) }
-    ensures due { IfOk result (λ a. a.status ≢ 3 → TellsThree table.now project.now proof.now opts (I.files inputs.old) a.status a.text.items) }
-    ensures failed { IfOk result (λ a. a.status ≡ 3 → ReadFaultAt (table.now ∷ project.now ∷ proof.now ∷ []) (I.faults inputs.old) (I.faults inputs.new) a.text.items) }
-    ensures too_long { IfOk result (λ a. a.status ≡ 4 → TooLongAt (table.now ∷ project.now ∷ proof.now ∷ []) (I.current inputs.new) (I.taken inputs.new) a.text.items) }
-    ensures told { IfOk result (λ a. IsToldAt (table.now ∷ project.now ∷ proof.now ∷ []) (I.current inputs.new) (I.taken inputs.new) a.status) }
+/// Makes a case, and answers what is due for it.
+pub(crate) fn of_case(alloc: Global, number: u64) -> Result<Answer, OutOfMemory>
+    ensures due { IfOk result (λ a. OfContents case_opts true (CaseTask case_opts number) (table_text number) project_text a.status a.text.items) }
+    ensures status { IfOk result (λ a. IsOfContents a.status) }
 {
-    let tables = match read_all(alloc, inputs, table) {
-        Ok(bytes) => bytes,
-        Err(fault) => return unread(alloc, fault, table),
-    };
-    let lines = match read_all(alloc, inputs, project) {
-        Ok(bytes) => bytes,
-        Err(fault) => return unread(alloc, fault, project),
-    };
-    let text = match read_all(alloc, inputs, proof) {
-        Ok(bytes) => bytes,
-        Err(fault) => return unread(alloc, fault, proof),
-    };
-    let task = CheckProof::new(opts, text);
-    of_contents(alloc, &task, tables.as_slice(), lines.as_slice())
+    let Case {
+        tables,
+        project,
+        needs,
+    } = make_case(alloc, number)?;
+    // A made project has some 3,000 bytes, so that this is never so: it spares a proof of their number.
+    if project.len() > MOST_BYTES {
+        return Err(OutOfMemory);
+    }
+    let task = MakeCase::new(number, needs);
+    of_contents(alloc, &task, tables.as_slice(), project.as_slice())
 }

@@ -5,13 +5,13 @@ ghost use Rattle.res_model.specs.declared.command.Free.TheVariants.{Pins};
 ghost use Rattle.res_model.specs.declared.command.Opts.{Opts};
 ghost use Rattle.res_model.specs.declared.project.Project.{Project};
 ghost use Rattle.res_model.specs.declared.table.TableParts.{TableParts};
-ghost use Rattle.resolver.specs.Due.{CheckTask, PinsTask, ResolveTask};
+ghost use Rattle.resolver.specs.Due.{CaseTask, CheckTask, PinsTask, ResolveTask};
 ghost use Rattle.resolver.specs.Owed.{IsOfContents};
 
 use crate::home_tree::{hertz_fit, home_text};
-use res_base::OutOfMemory;
+use res_base::{Items, OutOfMemory, Text};
 use res_model::{Free, Opts, Project, Tables};
-use solver::{Answer, check, place, resolve};
+use solver::{Answer, check, place, resolve, resolve_case};
 use std::alloc::Global;
 
 /// A command over a table and a project.
@@ -53,7 +53,7 @@ impl PlacePins {
 
 impl Task for PlacePins {
     ghost use Rattle.std.specs.Prelude.{false};
-    ghost use Rattle.resolver.specs.Due.{CheckTask, PinsTask, ResolveTask};
+    ghost use Rattle.resolver.specs.Due.{CaseTask, CheckTask, PinsTask, ResolveTask};
 
     ghost options = { λ t. t.opts };
 
@@ -150,6 +150,79 @@ fn resolved(
 {
     hertz_fit(&tables);
     resolve(alloc, tables, project, opts, proof)
+}
+
+/// The least choice of a made case.
+#[derive(Drop)]
+pub(crate) struct MakeCase {
+    number: u64,
+    opts: Opts,
+}
+
+impl MakeCase {
+    ghost use Rattle.resolver.specs.Due.{case_opts};
+    ghost use Rattle.big_case.specs.Case.{needs};
+
+    pub(crate) fn new(number: u64, wishes: Items<Text>) -> MakeCase
+        requires { wishes ≡ needs }
+        ensures number { result.number ≡ number }
+        ensures opts { result.opts ≡ case_opts }
+    {
+        MakeCase {
+            number,
+            opts: Opts {
+                vdd: 3300,
+                needs: wishes,
+                hclk: None,
+                pclk1: None,
+                pclk2: None,
+                free: Free::All,
+            },
+        }
+    }
+}
+
+impl Task for MakeCase {
+    ghost use Rattle.std.specs.Prelude.{true};
+    ghost use Rattle.resolver.specs.Due.{CaseTask};
+
+    ghost options = { λ t. t.opts };
+
+    ghost with_clocks = { λ _. true };
+
+    ghost due = { λ t. CaseTask t.opts t.number };
+
+    fn opts(&self) -> &Opts {
+        &self.opts
+    }
+
+    fn has_clocks(&self) -> bool {
+        true
+    }
+
+    fn answer(
+        &self,
+        alloc: Global,
+        tables: Tables,
+        project: Project,
+    ) -> Result<Answer, OutOfMemory> {
+        made(alloc, self.number, tables, project, &self.opts)
+    }
+}
+
+fn made(
+    alloc: Global,
+    number: u64,
+    tables: Tables,
+    project: Project,
+    opts: &Opts,
+) -> Result<Answer, OutOfMemory>
+    requires { IsRead tables opts.now true project }
+    ensures due { IfOk result (λ a. CaseTask opts.now number tables project a.status a.text.items) }
+    ensures status { IfOk result (λ a. IsOfContents a.status) }
+{
+    hertz_fit(&tables);
+    resolve_case(alloc, number, tables, project, opts)
 }
 
 /// Whether the text of a refutation is accepted.

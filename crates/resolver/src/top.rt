@@ -7,9 +7,10 @@ ghost use Rattle.resolver.specs.Due.{OfCommand};
 ghost use Rattle.solver.specs.Said.{Says};
 ghost use Rattle.resolver.specs.Owed.{TellsFor, TellsDue, Settled, IsReadFault, IsTooLong, IsToldIfServed, WroteReadFault, WroteTooLong, WroteFront, IsOwn, inputs_of, ReadFaultAt, TooLongAt, IsToldAt, may_wait, waits};
 
-use crate::reading::{of_files, of_three};
+use crate::reading::{of_case, of_files};
 use crate::refusals::refused_words;
 use crate::tasks::{PlacePins, ResolveAll, ShowTree};
+use crate::three::of_three;
 use cmd_words::read_words;
 use res_base::OutOfMemory;
 use res_io::{Gate, Inputs, Sink, SureInputs, SureSink, write_all};
@@ -76,7 +77,12 @@ fn of_command<I: Inputs>(
             proof.as_str(),
             opts,
         ),
-        Command::Case { .. } => says(alloc, 11, "not built: case"),
+        Command::Case { number, workers } => {
+            if workers > 1 {
+                return says(alloc, 11, "not built: workers");
+            }
+            of_case(alloc, number)
+        }
     }
 }
 

@@ -9,11 +9,18 @@ use Rattle.choice_rank.specs.Least.{IsLeast, IsAnswer}
 index_in_rank : (cost choices index : ℕ) → index < choices → (cost * choices + index) % choices ≡ index
 index_in_rank cost choices index l = mod-mul-add cost choices index l
 
-pub unranked : (vs : List VarShape) (legal : List ℕ → Bool) (rank : ℕ) (at : List ℕ) → IsAnswer vs legal (Some rank) → IsChoice vs at → index_of vs at ≡ rank % choices_of vs → IsLeast vs legal at
-unranked vs legal rank at answer choice index =
-    let c : List ℕ = answer.0 in
-    let least : IsLeast vs legal c = answer.1 in
-    let is : rank_of vs c ≡ rank = answer.2 in
-    let low : index_of vs c < choices_of vs = index_lt vs c least.is_choice in
-    let same : index_of vs c ≡ rank % choices_of vs = sym (index_in_rank (cost_of vs c) (choices_of vs) (index_of vs c) low) ∙ ap (λ (r : ℕ). r % choices_of vs) is in
-    subst (IsLeast vs legal) (index_same vs c at least.is_choice choice (same ∙ sym index)) least
+module _ (vs : List VarShape) (legal : List ℕ → Bool) (rank : ℕ) (at : List ℕ) (answer : IsAnswer vs legal (Some rank)) (choice : IsChoice vs at) (index : index_of vs at ≡ rank % choices_of vs) where
+  same : answer.0 ≡ at
+  same =
+      let c : List ℕ = answer.0 in
+      let least : IsLeast vs legal c = answer.1 in
+      let is : rank_of vs c ≡ rank = answer.2 in
+      let low : index_of vs c < choices_of vs = index_lt vs c least.is_choice in
+      let e : index_of vs c ≡ rank % choices_of vs = sym (index_in_rank (cost_of vs c) (choices_of vs) (index_of vs c) low) ∙ ap (λ (r : ℕ). r % choices_of vs) is in
+      index_same vs c at least.is_choice choice (e ∙ sym index)
+
+  pub unranked : IsLeast vs legal at
+  unranked = subst (IsLeast vs legal) same answer.1
+
+  pub ranked : rank_of vs at ≡ rank
+  ranked = subst (λ (c : List ℕ). rank_of vs c ≡ rank) same answer.2

@@ -2,9 +2,20 @@
 use Rattle.std.specs.Prelude.{◌≡◌, ℕ, List, [], ◌++◌, Bool, true, false, Option, Some, None, Ok, Err, codes, decimal, map}
 use Rattle.choice_rank.specs.Choices.{IsNarrow, IsFirstWide, rank_of}
 use Rattle.choice_rank.specs.Least.{IsLeast, NoneLegal}
+use Rattle.box_rules.specs.Judged.{whole_meaning}
 use Rattle.problem.specs.declared.parts.ProblemParts.{ProblemParts}
 use Rattle.problem.specs.Meets.{meets}
+use Rattle.refutation.specs.declared.node.Node.{Node}
+use Rattle.refutation.specs.declared.node.ProofFault.TheVariants as fault
+use Rattle.refutation.specs.Forms.{form_of}
+use Rattle.refutation.specs.Reading.{proof_of}
+use Rattle.refutation.specs.Trees.{IsAccepted}
+use Rattle.refute_check.specs.Faults.{fault_at}
+use Rattle.report.specs.Cases.{case_text}
 use Rattle.report.specs.Placed.{placement_text}
+use Rattle.report.specs.Reported.{report_text}
+use Rattle.search_api.specs.Meaning.{Meaning}
+use Rattle.solver.specs.Refutation.{IsRefutation}
 use Rattle.solver.specs.Said.{Says}
 
 -- what is due where a task is asked of a problem: that ranks would not fit, by the first variable with which they do not,
@@ -17,3 +28,33 @@ pub data OfProblem (p : ProblemParts) (task : ℕ → List ℕ → Type 0) (s : 
 pub data OfPins (p : ProblemParts) (s : ℕ) (x : List ℕ) : Type 0 where
   placed : (c : List ℕ) → IsLeast p.shape (meets p) c → s ≡ 0 → x ≡ placement_text p c → OfPins p s x
   unplaced : NoneLegal p.shape (meets p) → Says s x 1 (codes "no choice") → OfPins p s x
+
+-- what stands behind the report: the refutation of all that is below the choice, where it is asked for
+abbrev pub IsMore : Bool → Meaning → Option ℕ → List ℕ → Type 0
+IsMore false m bound more = more ≡ []
+IsMore true m bound more = IsRefutation m bound more
+
+-- the four lines of the least choice of a made case, or that there is none
+pub data OfCase (number : ℕ) (p : ProblemParts) (s : ℕ) (x : List ℕ) : Type 0 where
+  made : (c : List ℕ) → IsLeast p.shape (meets p) c → s ≡ 0 → x ≡ case_text number p c → OfCase number p s x
+  unmade : NoneLegal p.shape (meets p) → Says s x 1 (codes "no choice") → OfCase number p s x
+
+-- the report of the least choice, or the refutation of all choices
+pub data OfWhole (proof : Bool) (p : ProblemParts) (s : ℕ) (x : List ℕ) : Type 0 where
+  solved : (c more : List ℕ) → IsLeast p.shape (meets p) c → IsMore proof (whole_meaning p) (Some (rank_of p.shape c)) more → s ≡ 0 → x ≡ report_text p c ++ more → OfWhole proof p s x
+  refuted : NoneLegal p.shape (meets p) → IsRefutation (whole_meaning p) None x → s ≡ 1 → OfWhole proof p s x
+
+-- what is said of a refutation that is accepted
+abbrev pub accepted_text : Option ℕ → List ℕ
+accepted_text None = codes "accepted: no choice"
+accepted_text (Some rank) = codes "accepted: least rank " ++ decimal rank
+
+-- the nodes of a refutation: the first that breaks its rule, or that they are accepted
+pub data OfNodes (p : ProblemParts) (bound : Option ℕ) (nodes : List Node) (s : ℕ) (x : List ℕ) : Type 0 where
+  rejected : (node : ℕ) → fault_at (whole_meaning p) bound nodes ≡ Some node → Says s x 10 (codes "proof: node " ++ decimal node) → OfNodes p bound nodes s x
+  accepted : IsAccepted (whole_meaning p) bound nodes → Says s x 0 (accepted_text bound) → OfNodes p bound nodes s x
+
+-- the text of a refutation: the first line that is not of a form due there, or what its nodes say
+pub data OfProof (text : List ℕ) (p : ProblemParts) (s : ℕ) (x : List ℕ) : Type 0 where
+  unread : (line : ℕ) → proof_of text ≡ Err (fault.Line line) → Says s x 10 (codes "proof: line " ++ decimal line) → OfProof text p s x
+  nodes : (bound : Option ℕ) (read : List Node) → proof_of text ≡ Ok (bound, map form_of read) → OfNodes p bound read s x → OfProof text p s x

@@ -1,6 +1,6 @@
 //! The least choice, from its rank.
 ghost use Rattle.std.specs.Prelude.{◌≡◌, ◌%◌, ◌++◌, ℕ, List, Bool, Some, codes, decimal, IfOk};
-ghost use Rattle.choice_rank.specs.Choices.{IsChoice, choices_of, index_of};
+ghost use Rattle.choice_rank.specs.Choices.{IsChoice, choices_of, index_of, rank_of};
 ghost use Rattle.choice_rank.specs.Least.{IsAnswer, IsLeast};
 ghost use Rattle.solver.specs.Said.{Says};
 
@@ -23,6 +23,7 @@ fn choice_of(alloc: Global, shape: &Shape, rank: u64) -> Result<Vec<u16>, OutOfM
 pub(crate) fn least_of(alloc: Global, shape: &Shape, rank: u64) -> Result<Vec<u16>, OutOfMemory>
     ensures choice { IfOk result (λ at. IsChoice shape.now at.items) }
     ensures least { IfOk result (λ at. (legal : List ℕ → Bool) → IsAnswer shape.now legal (Some rank) → IsLeast shape.now legal at.items) }
+    ensures rank { IfOk result (λ at. (legal : List ℕ → Bool) → IsAnswer shape.now legal (Some rank) → rank_of shape.now at.items ≡ rank) }
 {
     let at = choice_of(alloc, shape, rank)?;
     Ok(at)

@@ -2,9 +2,15 @@
 #![tactic(auto)]
 
 mod answer;
+mod cases;
+mod checked;
 mod least;
 mod pins;
 mod proof_text;
+mod whole;
 
 pub use answer::{Answer, counts, names, says};
+pub use cases::resolve_case;
+pub use checked::check;
 pub use pins::place;
+pub use whole::resolve;

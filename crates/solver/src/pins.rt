@@ -29,6 +29,17 @@ fn found(alloc: Global, p: &Problem, rank: u64) -> Result<Answer, OutOfMemory>
     Ok(Answer { status: 0, text })
 }
 
+/// What is due for the rank of the least placement, or for none.
+fn told(alloc: Global, p: &Problem, best: Option<u64>) -> Result<Answer, OutOfMemory>
+    requires { IsAnswer p.now.shape (meets p.now) best }
+    ensures { IfOk result (λ a. OfPins p.now a.status a.text.items) }
+{
+    match best {
+        Some(rank) => found(alloc, p, rank),
+        None => says(alloc, 1, "no choice"),
+    }
+}
+
 /// What is due where the search has accounted for each choice.
 fn searched(alloc: Global, p: Problem) -> Result<Answer, OutOfMemory>
     requires { p.first ≡ 0 }
@@ -36,10 +47,7 @@ fn searched(alloc: Global, p: Problem) -> Result<Answer, OutOfMemory>
 {
     let judge = PinJudge::new(alloc, p)?;
     let outcome = search(alloc, &judge)?;
-    match outcome.best {
-        Some(rank) => found(alloc, judge.problem(), rank),
-        None => says(alloc, 1, "no choice"),
-    }
+    told(alloc, judge.problem(), outcome.best)
 }
 
 /// The least placement of a project's signals, or why there is none.

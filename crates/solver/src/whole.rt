@@ -1,0 +1,127 @@
+//! The least choice of pins and clocks.
+ghost use Rattle.std.specs.Prelude.{◌≡◌, ◌≢◌, ◌≤◌, ◌<◌, ◌^◌, Bool, None, Some, length, IfOk};
+ghost use Rattle.res_base.specs.Lists.{Each};
+ghost use Rattle.choice_rank.specs.Least.{IsAnswer, NoneLegal};
+ghost use Rattle.box_rules.specs.Judged.{whole_meaning};
+ghost use Rattle.problem.specs.Meets.{meets};
+ghost use Rattle.problem.specs.Problem.{AreHomesDue, problem_of};
+ghost use Rattle.problem.specs.declared.parts.Part.TheVariants as part;
+ghost use Rattle.res_model.specs.Placed.{IsPlaced};
+ghost use Rattle.search_api.specs.Accounts.{Accounted};
+ghost use Rattle.solver.specs.Owed.{IsMore, OfProblem, OfWhole};
+
+use crate::answer::Answer;
+use crate::least::{least_of, too_wide};
+use crate::proof_text::refutation_text;
+use box_judge::PinClockJudge;
+use choice_rank::ShapeFault;
+use problem::{Part, Problem, build};
+use report::report_text;
+use res_base::OutOfMemory;
+use res_model::{Opts, Project, Tables};
+use search_api::Outcome;
+use serial_search::search;
+use std::alloc::Global;
+
+/// The refutation of all choices below the best one, where it is asked for.
+fn more_of(
+    alloc: Global,
+    judge: &PinClockJudge,
+    outcome: &Outcome,
+    proof: bool,
+) -> Result<Vec<u8>, OutOfMemory>
+    requires { Accounted (whole_meaning judge.now.problem) outcome.now.best outcome.now.kept outcome.now.closed }
+    ensures { IfOk result (λ x. IsMore proof (whole_meaning judge.now.problem) outcome.now.best x.items) }
+{
+    if proof {
+        refutation_text(alloc, judge, outcome)
+    } else {
+        Ok(Vec::new(alloc))
+    }
+}
+
+/// The refutation of all choices.
+fn refuted(
+    alloc: Global,
+    judge: &PinClockJudge,
+    outcome: &Outcome,
+    proof: bool,
+) -> Result<Answer, OutOfMemory>
+    requires accounted { Accounted (whole_meaning judge.now.problem) outcome.now.best outcome.now.kept outcome.now.closed }
+    requires none { NoneLegal judge.now.problem.shape (meets judge.now.problem) }
+    requires best { outcome.now.best ≡ None }
+    ensures { IfOk result (λ a. OfWhole proof judge.now.problem a.status a.text.items) }
+{
+    let text = refutation_text(alloc, judge, outcome)?;
+    Ok(Answer { status: 1, text })
+}
+
+/// The report of a least choice, with what is asked for behind it.
+fn reported(
+    alloc: Global,
+    p: &Problem,
+    rank: u64,
+    more: &[u8],
+    proof: bool,
+) -> Result<Answer, OutOfMemory>
+    requires whole { p.now.first ≢ 0 }
+    requires answer { IsAnswer p.now.shape (meets p.now) (Some rank) }
+    requires more { IsMore proof (whole_meaning p.now) (Some rank) more.now }
+    ensures { IfOk result (λ a. OfWhole proof p.now a.status a.text.items) }
+{
+    let at = least_of(alloc, &p.parts().shape, rank)?;
+    let mut text = report_text(alloc, p, at.as_slice())?;
+    text.extend_from_slice(more)?;
+    Ok(Answer { status: 0, text })
+}
+
+/// What is due where the search has accounted for each choice.
+fn told(
+    alloc: Global,
+    judge: &PinClockJudge,
+    outcome: &Outcome,
+    proof: bool,
+) -> Result<Answer, OutOfMemory>
+    requires whole { judge.now.problem.first ≢ 0 }
+    requires accounted { Accounted (whole_meaning judge.now.problem) outcome.now.best outcome.now.kept outcome.now.closed }
+    requires answer { IsAnswer judge.now.problem.shape (meets judge.now.problem) outcome.now.best }
+    ensures { IfOk result (λ a. OfWhole proof judge.now.problem a.status a.text.items) }
+{
+    match outcome.best {
+        Some(rank) => {
+            let more = more_of(alloc, judge, outcome, proof)?;
+            reported(alloc, judge.problem(), rank, more.as_slice(), proof)
+        }
+        None => refuted(alloc, judge, outcome, proof),
+    }
+}
+
+fn searched(alloc: Global, p: Problem, proof: bool) -> Result<Answer, OutOfMemory>
+    requires { p.first ≢ 0 }
+    ensures { IfOk result (λ a. OfWhole proof p a.status a.text.items) }
+{
+    let judge = PinClockJudge::new(alloc, p)?;
+    let outcome = search(alloc, &judge)?;
+    told(alloc, &judge, &outcome, proof)
+}
+
+/// The report of the least choice of pins and clocks that meets every limit, or the refutation of all choices.
+pub fn resolve(
+    alloc: Global,
+    t: Tables,
+    p: Project,
+    opts: &Opts,
+    proof: bool,
+) -> Result<Answer, OutOfMemory>
+    requires few { length p.signals ≤ 160 }
+    requires placed { Each (IsPlaced t) p.signals }
+    requires hertz { p.hse_hz < 2 ^ 32 }
+    requires homes { AreHomesDue t p opts.now part.Whole }
+    ensures { IfOk result (λ a. OfProblem (problem_of t p opts.now part.Whole) (OfWhole proof (problem_of t p opts.now part.Whole)) a.status a.text.items) }
+{
+    match build(alloc, t, p, opts, Part::Whole) {
+        Ok(problem) => searched(alloc, problem, proof),
+        Err(ShapeFault::TooWide { variable }) => too_wide(alloc, variable),
+        Err(ShapeFault::Memory) => Err(OutOfMemory),
+    }
+}
