@@ -1,2 +1,3 @@
 pub mod HallLemmas
+pub mod KeptLemmas
 pub mod LimitLemmas

@@ -28,14 +28,15 @@ highs_are (suc k) (v ∷ vs) (x ∷ lo) (y ∷ hi) l b = ap (λ (xs : List ℕ).
 abbrev pub clocks : List ℕ → List ℕ → ClockBox
 clocks lo hi = record { lo = lo; hi = hi }
 
-module _ (p : ProblemParts) (w : IsWhole p) (b : BoxBuf) (is_box : IsBox p.shape (box_in p.shape b)) where
-  ten : 10 ≤ length p.shape
-  ten = omega (arith, as_many_values (take 10 p.shape) p.clock (sizes p w), length-take 10 p.shape, w.clock.ten)
+-- a whole problem has its clock variables
+pub ten : (p : ProblemParts) → IsWhole p → 10 ≤ length p.shape
+ten p w = omega (arith, as_many_values (take 10 p.shape) p.clock (sizes p w), length-take 10 p.shape, w.clock.ten)
 
+module _ (p : ProblemParts) (w : IsWhole p) (b : BoxBuf) (is_box : IsBox p.shape (box_in p.shape b)) where
   clocks_are : clocks (take 10 b.lo) (take 10 b.hi) ≡ clock_box (box_in p.shape b)
   clocks_are =
-      ap (λ (xs : List ℕ). clocks xs (take 10 b.hi)) (sym (lows_are 10 p.shape b.lo b.hi ten is_box))
-      ∙ ap (λ (ys : List ℕ). clocks (take 10 (lows (box_in p.shape b))) ys) (sym (highs_are 10 p.shape b.lo b.hi ten is_box))
+      ap (λ (xs : List ℕ). clocks xs (take 10 b.hi)) (sym (lows_are 10 p.shape b.lo b.hi (ten p w) is_box))
+      ∙ ap (λ (ys : List ℕ). clocks (take 10 (lows (box_in p.shape b))) ys) (sym (highs_are 10 p.shape b.lo b.hi (ten p w) is_box))
 
   -- the same of what was read from the problem
   module _ (q : ProblemParts) (values : List (List ℕ)) (lo hi : List ℕ) (e : q ≡ p) (f : values ≡ q.clock) (l : lo ≡ take 10 b.lo) (h : hi ≡ take 10 b.hi) where

@@ -4,10 +4,10 @@ ghost use Rattle.res_model.specs.Ranges.{shown_limit};
 ghost use Rattle.box_rules.specs.Judged.{IsWhole, clock_box, whole_meaning, whole_verdict};
 ghost use Rattle.box_split.specs.Boxes.{IsBox};
 ghost use Rattle.box_split.specs.BoxIn.{box_in};
-ghost use Rattle.box_judge.specs.Fits.{FitsPins};
+ghost use Rattle.box_judge.specs.Kept.{FitsWhole};
 ghost use Rattle.box_judge.specs.Ready.{whole_prop, whole_lawful};
 
-use crate::halls::{PinRoom, pin_room, shown_hall};
+use crate::kept::{PinClockRoom, hall_kept, whole_room};
 use box_split::{BoxBuf, is_single};
 use choice_rank::Shape;
 use clock_limits::{ClockBox, range_broken};
@@ -50,21 +50,21 @@ fn is_whole(p: &Problem)
 }
 
 impl Judge for PinClockJudge {
-    type Scratch = PinRoom;
+    type Scratch = PinClockRoom;
 
     ghost meaning = { λ j. whole_meaning j.problem };
 
-    ghost fits = { λ j s. FitsPins j.problem s };
+    ghost fits = { λ j s. FitsWhole j.problem s };
 
     fn shape(&self) -> &Shape {
         &self.problem.parts().shape
     }
 
-    fn scratch(&self, alloc: Global) -> Result<PinRoom, OutOfMemory> {
-        pin_room(alloc, &self.problem)
+    fn scratch(&self, alloc: Global) -> Result<PinClockRoom, OutOfMemory> {
+        whole_room(alloc, &self.problem)
     }
 
-    fn judge(&self, scratch: &mut PinRoom, b: &BoxBuf) -> Verdict {
+    fn judge(&self, scratch: &mut PinClockRoom, b: &BoxBuf) -> Verdict {
         judge_whole(&self.problem, scratch, b)
     }
 
@@ -104,14 +104,14 @@ fn shown_limit(p: &Problem, b: &BoxBuf) -> Option<u8>
 }
 
 /// The verdict of the judge of clocks and pins.
-fn judge_whole(p: &Problem, room: &mut PinRoom, b: &BoxBuf) -> Verdict
+fn judge_whole(p: &Problem, room: &mut PinClockRoom, b: &BoxBuf) -> Verdict
     requires whole { IsWhole p.now }
-    requires fits { FitsPins p.now room.old }
+    requires fits { FitsWhole p.now room.old }
     requires is_box { IsBox p.now.shape (box_in p.now.shape b.now) }
     ensures verdict { result ≡ whole_verdict p.now (box_in p.now.shape b.now) }
-    ensures fits { FitsPins p.now room.new }
+    ensures fits { FitsWhole p.now room.new }
 {
-    if let Some(reason) = shown_hall(p, room, b) {
+    if let Some(reason) = hall_kept(p, room, b) {
         return Verdict::Bad(reason);
     }
     if let Some(limit) = shown_limit(p, b) {

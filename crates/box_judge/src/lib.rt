@@ -4,8 +4,10 @@
 mod clocks;
 mod contest;
 mod halls;
+mod kept;
 mod pins;
 
 pub use clocks::PinClockJudge;
 pub use halls::PinRoom;
+pub use kept::PinClockRoom;
 pub use pins::PinJudge;
