@@ -1,1 +1,3 @@
-pub mod PinLemmas
+pub mod HallLemmas
+pub mod KeptLemmas
+pub mod LimitLemmas

@@ -1,4 +1,4 @@
-ghost use Rattle.std.specs.Prelude.{◌≡◌, ◌≤◌, IfOk, length};
+ghost use Rattle.std.specs.Prelude.{◌≡◌, IfOk};
 ghost use Rattle.search_api.proofs.ShapeLemmas.{shape_prop};
 ghost use Rattle.box_rules.specs.Judged.{IsReady, pin_meaning, pin_verdict};
 ghost use Rattle.box_split.specs.Boxes.{IsBox};
@@ -6,12 +6,12 @@ ghost use Rattle.box_split.specs.BoxIn.{box_in};
 ghost use Rattle.box_judge.specs.Fits.{FitsPins};
 ghost use Rattle.box_judge.specs.Ready.{ready_prop, pin_lawful};
 
-use crate::contest::Contest;
+use crate::halls::{PinRoom, pin_room, shown_hall};
 use box_split::{BoxBuf, is_single};
 use choice_rank::Shape;
 use problem::Problem;
 use res_base::OutOfMemory;
-use search_api::{Class, Judge, Reason, Verdict};
+use search_api::{Judge, Verdict};
 use std::alloc::Global;
 
 /// Judges the boxes of a problem of pins alone.
@@ -20,13 +20,6 @@ pub struct PinJudge {
     problem: Problem,
     ghost ready: { IsReady problem } by { ready_prop problem },
     ghost pins_only: { problem.first ≡ 0 },
-}
-
-/// Room for what competes in a box.
-#[derive(Drop)]
-pub struct PinRoom {
-    pins: Contest,
-    lines: Contest,
 }
 
 impl PinJudge {
@@ -66,12 +59,7 @@ impl Judge for PinJudge {
     }
 
     fn scratch(&self, alloc: Global) -> Result<PinRoom, OutOfMemory> {
-        let uses = self.problem.parts().uses.as_slice();
-        few_uses(&self.problem);
-        Ok(PinRoom {
-            pins: Contest::new(alloc, Class::Pins, uses)?,
-            lines: Contest::new(alloc, Class::Exti, uses)?,
-        })
+        pin_room(alloc, &self.problem)
     }
 
     fn judge(&self, scratch: &mut PinRoom, b: &BoxBuf) -> Verdict {
@@ -84,33 +72,14 @@ impl Judge for PinJudge {
 /// The verdict of the judge of pins.
 fn judge_pins(p: &Problem, room: &mut PinRoom, b: &BoxBuf) -> Verdict
     requires ready { IsReady p.now }
-    requires pins_only { p.now.first ≡ 0 }
     requires fits { FitsPins p.now room.old }
     requires is_box { IsBox p.now.shape (box_in p.now.shape b.now) }
     ensures verdict { result ≡ pin_verdict p.now (box_in p.now.shape b.now) }
     ensures fits { FitsPins p.now room.new }
 {
-    let parts = p.parts();
-    let uses = parts.uses.as_slice();
-    let t = parts.tables.parts();
-    if let Some(vars) = room.pins.hall(t, Class::Pins, uses, 0, &b.lo, &b.hi) {
-        let class = Class::Pins;
-        return Verdict::Bad(Reason::Hall { class, vars });
+    match shown_hall(p, room, b) {
+        Some(reason) => Verdict::Bad(reason),
+        None if is_single(&p.parts().shape, b) => Verdict::Legal,
+        None => Verdict::Open,
     }
-    if let Some(vars) = room.lines.hall(t, Class::Exti, uses, 0, &b.lo, &b.hi) {
-        let class = Class::Exti;
-        return Verdict::Bad(Reason::Hall { class, vars });
-    }
-    if is_single(&parts.shape, b) {
-        Verdict::Legal
-    } else {
-        Verdict::Open
-    }
-}
-
-/// That a problem has few signals.
-fn few_uses(p: &Problem)
-    ensures { length p.now.uses ≤ 160 }
-{
-    p.parts_agree();
 }

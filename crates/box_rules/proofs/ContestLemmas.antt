@@ -266,7 +266,7 @@ single_drop zero rs h = h
 single_drop (suc k) [] h = refl
 single_drop (suc k) (r ∷ rs) h = single_drop k rs (both (leb r.high r.low) (is_single rs) h).1
 
-pub as_many_values : (vs : List VarShape) (uses : List (List PinUse)) → HaveValues vs uses → length uses ≡ length vs
+pub as_many_values : {X : Type 0} (vs : List VarShape) (uses : List (List X)) → HaveValues vs uses → length uses ≡ length vs
 as_many_values [] [] h = refl
 as_many_values [] (us ∷ uss) h = absurd h
 as_many_values (v ∷ vs) [] h = absurd h

@@ -12,7 +12,6 @@ use Rattle.problem.specs.declared.parts.ProblemParts.{ProblemParts}
 use Rattle.problem.specs.ClockValues.{clock_at}
 use Rattle.problem.specs.Meets.{meets}
 use Rattle.problem.specs.Problem.{HaveValues}
-use Rattle.res_model.specs.declared.clock.ClockBox.{ClockBox}
 use Rattle.res_model.specs.declared.clock.ClockChoice.{ClockChoice}
 use Rattle.res_model.specs.Limits.{broken_limit, meets_limit}
 use Rattle.res_model.specs.Placement.{fits, uses_at}
@@ -23,7 +22,7 @@ use Rattle.search_api.specs.declared.verdict.Reason.TheVariants.{Hall, Limit}
 use Rattle.search_api.specs.declared.verdict.Verdict.TheVariants.{Bad, Legal, Open}
 use Rattle.search_api.specs.Meaning.{IsLawful}
 use Rattle.box_rules.specs.Contest.{hall_in}
-use Rattle.box_rules.specs.Judged.{IsReady, IsWhole, clock_box, contest, shows_whole, whole_meaning, whole_verdict_from}
+use Rattle.box_rules.specs.Judged.{IsWhole, clock_box, contest, shows_whole, whole_meaning, whole_verdict_from}
 use Rattle.box_rules.proofs.ClockLemmas.{IsPlaced, clock_in, one_at, placed_at}
 use Rattle.box_rules.proofs.ContestLemmas.{lows_lie}
 use Rattle.box_rules.proofs.CountLemmas.{both}
@@ -72,7 +71,7 @@ not_false true e = refl
 not_false false e = cc
 
 module _ (p : ProblemParts) (w : IsWhole p) where
-  sizes : HaveValues (take 10 p.shape) p.clock
+  pub sizes : HaveValues (take 10 p.shape) p.clock
   sizes = subst (λ (n : ℕ). HaveValues (take n p.shape) p.clock) w.first w.clock_sizes
 
   -- a choice that meets all breaks no limit
