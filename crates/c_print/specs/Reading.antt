@@ -29,7 +29,8 @@ lines_of (c ∷ cs) = if c == 10 then (10 ∷ []) ∷ lines_of cs else onto_line
 abbrev pub AgreesFor : ℕ → List ℕ → Type 0
 AgreesFor n text = (ops : List Op) × Each FitsLine ops × (take n (lines_of text) ≡ take n (c_lines ops))
 
--- the first line at which the text is as no C text. It may be the one after the last
+-- the first line at which the text is as no C text: those before it are of a form due there, and it is not. Where the
+-- text ends too early it is the one after the last
 pub record DepartsAt (line : ℕ) (text : List ℕ) : Type 0 where
   pub from_one : 1 ≤ line
   pub before : AgreesFor (line - 1) text

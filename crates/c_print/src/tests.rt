@@ -1,3 +1,6 @@
+ghost use Rattle.res_base.specs.Lists.{Each};
+ghost use Rattle.reg_machine.specs.Words.{IsOp};
+
 use crate::{CFault, c_text, read_c};
 use reg_machine::{Op, Timeout};
 use reg_map::{GpioReg, Reg};
@@ -64,7 +67,9 @@ fn fault(alloc: Global, text: &[u8]) -> Result<u32, Fail> {
     }
 }
 
-fn worked() -> [Op; 3] {
+fn worked() -> [Op; 3]
+    ensures { Each IsOp result }
+{
     [
         Op::Write {
             reg: Reg::Acr,
@@ -97,25 +102,7 @@ fn three_accesses_are_read_again(rt: HostRuntime) -> Result<(), Fail> {
 
 #[test]
 fn three_accesses_are_printed(rt: HostRuntime) -> Result<(), Fail> {
-    let ops = [
-        Op::Write {
-            reg: Reg::Acr,
-            value: 0x700,
-        },
-        Op::Await {
-            reg: Reg::Acr,
-            mask: 7,
-            want: 0,
-            polls: 1000,
-            name: Timeout::Latency,
-        },
-        Op::Modify {
-            reg: Reg::Cfgr,
-            clear: 0xFCF0,
-            set: 0,
-        },
-    ];
-    let printed = c_text(rt.alloc(), &ops)?;
+    let printed = c_text(rt.alloc(), &worked())?;
     let text = lines(rt.alloc(), write(), wait(), modify(), end())?;
     assert_eq!(rt; printed.as_slice(), text.as_slice());
     Ok(())
