@@ -2,6 +2,7 @@
 #![tactic(auto)]
 
 mod escapes;
+mod index;
 mod ioc;
 mod keys;
 mod lines;

@@ -1,7 +1,7 @@
 use Rattle.std.proofs.Common.{◌∙◌, ap}
 use Rattle.ioc_text.proofs.Bytewise.{undo_escaped, undo_backslash, undo_plain}
-use Rattle.ioc_text.proofs.escapes.undo_into.Goals as goal
-use Rattle.ioc_text.proofs.escapes.undo_into.Goals.{then-in_pair+else-not-is_escapable+in_ok-push, else-in_pair+then-b-eq92, else-in_pair+else-b-eq92+in_ok-push-2}
+use Rattle.ioc_text.proofs.escapes.undo_each.Goals as goal
+use Rattle.ioc_text.proofs.escapes.undo_each.Goals.{then-in_pair+else-not-is_escapable+in_ok-push, else-in_pair+then-b-eq92, else-in_pair+else-b-eq92+in_ok-push-2}
 
 pub loop-b-preserved : goal.loop-b-preserved
 loop-b-preserved c = elim c.if-in_pair.branch [
