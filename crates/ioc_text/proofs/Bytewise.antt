@@ -1,10 +1,8 @@
 -- One more byte of a line.
-use Rattle.std.proofs.Common.{◌≡◌, ◌≢◌, ℕ, arith, ◌+◌, ◌<◌, List, [], ◌∷◌, ◌++◌, length, drop, get_or, Bool, true, false, eqb, Option, Some, None, refl, sym, ap, inl, inr, append_assoc, add-one}
+use Rattle.std.proofs.Common.{◌≡◌, ◌≢◌, ℕ, arith, ◌+◌, ◌<◌, List, [], ◌∷◌, ◌++◌, length, drop, get_or, Bool, true, false, eqb, Option, Some, None, refl, sym, ap, append_assoc, add-one}
 use Rattle.std.proofs.Math.Seq.{drop-cons}
-use Rattle.std.specs.List.{list_any}
 use Rattle.std.proofs.lemmas.Bool.Decides.{nat_tests}
-use Rattle.res_base.proofs.SumLemmas.{bool_cases}
-use Rattle.res_model.specs.Lines.{equals_from, undone, undone_from, after_bytes, is_escapable}
+use Rattle.res_model.specs.Lines.{equals_from, undone_from, after_bytes, is_escapable}
 
 first_and_more : (bytes : List ℕ) (at : ℕ) → at < length bytes → drop at bytes ≡ get_or bytes at 0 ∷ drop (at + 1) bytes
 first_and_more bytes at lt = rw add-one (drop-cons bytes at 0 lt)
@@ -43,16 +41,3 @@ module _ (bytes out next : List ℕ) (at : ℕ) (old new : Bool) (lt : at < leng
       → after_bytes next (undone_from new (drop (at + 1) bytes)) ≡ after_bytes out (undone_from old (drop at bytes))
   unfolding undone_from
   undo_plain o e p n = rw (n, o, p, first_and_more bytes at lt, differs (get_or bytes at 0) 92 e) (sym (two_fronts out (get_or bytes at 0 ∷ []) (undone_from false (drop (at + 1) bytes))))
-
--- bytes with no backslash stand for themselves
-plain_from : (bytes : List ℕ) → list_any (λ b. eqb b 92) bytes ≡ false → undone_from false bytes ≡ Some bytes
-unfolding undone_from
-plain_from [] h = refl
-plain_from (b ∷ bs) h = elim (bool_cases (eqb b 92)) [
-  | inl t ↦ let off : true ≡ false = rw t at h in absurd cc
-  | inr f ↦ let rest : list_any (λ x. eqb x 92) bs ≡ false = rw f at h in rw (f, plain_from bs rest) refl
-]
-
-pub plain : (bytes : List ℕ) → list_any (λ b. eqb b 92) bytes ≡ false → undone bytes ≡ Some bytes
-unfolding undone
-plain bytes h = plain_from bytes h

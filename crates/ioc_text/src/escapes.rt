@@ -29,22 +29,9 @@ fn is_escapable(b: u8) -> bool
     b == b' ' || b == b'\\' || b == b':' || b == b'=' || b == b'#' || b == b'!'
 }
 
-/// Leaves the bytes with escapes undone in `out`, and answers whether each escape is known. Most have none, and these
-/// are copied at once.
-#[tactic(auto, using(crate::proofs::Bytewise::plain))]
-pub(crate) fn undo_into(out: &mut Vec<u8>, bytes: &[u8]) -> Result<bool, AllocError>
-    ensures { MatchResult result (λ known. undone bytes.now ≡ (if known then Some out.new.items else None)) (λ _. ⊤) }
-{
-    if bytes.contains(&b'\\') {
-        return undo_each(out, bytes);
-    }
-    out.clear();
-    out.extend_from_slice(bytes)?;
-    Ok(true)
-}
-
+/// Leaves the bytes with escapes undone in `out`, and answers whether each escape is known.
 #[tactic(auto, unfolding(res_model::specs::Lines::undone, res_model::specs::Lines::undone_from))]
-fn undo_each(out: &mut Vec<u8>, bytes: &[u8]) -> Result<bool, AllocError>
+pub(crate) fn undo_into(out: &mut Vec<u8>, bytes: &[u8]) -> Result<bool, AllocError>
     ensures { MatchResult result (λ known. undone bytes.now ≡ (if known then Some out.new.items else None)) (λ _. ⊤) }
 {
     out.clear();

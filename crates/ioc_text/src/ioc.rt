@@ -1,15 +1,16 @@
-ghost use Rattle.std.specs.Prelude.{◌≡◌};
+ghost use Rattle.std.specs.Prelude.{◌≡◌, Some, OnOk};
 ghost use Rattle.std.specs.Option.{option_copied};
 
-use crate::index::Index;
-use res_model::Line;
+use res_model::{IocFault, Line};
+use std::alloc::Global;
+use std::collections::BTreeMap;
 use std::marker::Model;
 
 /// The lines of a project's text that have a named key, in the order of the text.
 #[derive(Debug, Drop)]
 pub struct Ioc {
     lines: Vec<Line>,
-    index: Index,
+    places: BTreeMap<Vec<u8>, usize>,
 }
 
 impl Model for Ioc {
@@ -18,22 +19,22 @@ impl Model for Ioc {
 
     ghost Value = { List Line };
 
-    ghost use Rattle.ioc_text.specs.Index.{IsIndex, keys_of};
+    ghost use Rattle.ioc_text.specs.Index.{IsIndex};
 
     ghost view = { λ i. i.lines.items };
 
-    ghost invariant = { λ i. IsIndex i.index.latest.items i.index.earlier.items (keys_of i.lines.items) };
+    ghost invariant = { λ i. IsIndex i.places.entries i.lines.items };
 }
 
 impl Ioc {
     ghost use Rattle.res_model.specs.Lines.{line_at};
-    ghost use Rattle.ioc_text.specs.Index.{IsIndex, keys_of};
+    ghost use Rattle.ioc_text.specs.Index.{IsIndex};
 
-    pub(crate) fn of(lines: Vec<Line>, index: Index) -> Ioc
-        requires { IsIndex index.latest.items index.earlier.items (keys_of lines.items) }
+    pub(crate) fn of(lines: Vec<Line>, places: BTreeMap<Vec<u8>, usize>) -> Ioc
+        requires { IsIndex places.entries lines.items }
         ensures { result ≡ lines.items }
     {
-        Ioc { lines, index }
+        Ioc { lines, places }
     }
 
     /// The lines, in the order of the text.
@@ -47,7 +48,7 @@ impl Ioc {
     pub fn get(&self, key: &[u8]) -> Option<&Line>
         ensures { option_copied result ≡ line_at self.now key.now }
     {
-        let place = self.index.place_of(self.lines.as_slice(), key)?;
+        let place = *self.places.get(key)?;
         Some(&self.lines[place])
     }
 }

@@ -2,7 +2,6 @@
 #![tactic(auto)]
 
 mod escapes;
-mod index;
 mod ioc;
 mod keys;
 mod lines;

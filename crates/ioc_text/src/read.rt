@@ -4,13 +4,13 @@ ghost use Rattle.res_model.specs.Lines.{equals_at, is_quiet, divided, with_key, 
 ghost use Rattle.ioc_text.specs.Index.{IsIndex};
 
 use crate::escapes::{equals_at, undo_into};
-use crate::index::{Index, push_line};
 use crate::ioc::Ioc;
 use crate::keys::is_named;
 use crate::lines::first_line;
 use res_base::Items;
 use res_model::{IocFault, Line};
 use std::alloc::Global;
+use std::collections::BTreeMap;
 
 /// The line of a named key, whose value is read.
 fn with_value(
@@ -83,6 +83,26 @@ fn line_of(
     }
 }
 
+/// Appends a line, unless its key stood before.
+#[tactic(auto, unfolding(res_model::specs::Lines::with_line))]
+fn push_line(
+    alloc: Global,
+    lines: &mut Vec<Line>,
+    places: &mut BTreeMap<Vec<u8>, usize>,
+    line: Line,
+) -> Result<(), IocFault>
+    requires { IsIndex places.old.entries lines.old.items }
+    ensures lines { Gives (λ _. lines.new.items) result (with_line lines.old.items (Some line)) }
+    ensures index { OnOk result (IsIndex places.new.entries lines.new.items) }
+{
+    let key = Vec::from_slice(alloc, line.key.as_slice())?;
+    if places.insert(key, lines.len())?.is_some() {
+        return Err(IocFault::TwiceKey { line: line.number });
+    }
+    lines.push(line)?;
+    Ok(())
+}
+
 /// Reads the lines of a project's text that have a named key, or the fault of its first faulty line.
 #[tactic(auto, unfolding(res_model::specs::Lines::ioc_of, res_model::specs::Lines::with_line))]
 pub fn read_ioc(alloc: Global, text: &[u8]) -> Result<Ioc, IocFault>
@@ -90,7 +110,7 @@ pub fn read_ioc(alloc: Global, text: &[u8]) -> Result<Ioc, IocFault>
     ensures { Gives (λ ioc. ioc) result (ioc_of text.now) }
 {
     let mut lines = Vec::new(alloc);
-    let mut index = Index::new(alloc, text.len() / 32 + 1)?;
+    let mut places = BTreeMap::new(alloc);
     let mut scratch = Vec::new(alloc);
     let mut rest = text;
     let mut number = 0u32;
@@ -99,8 +119,8 @@ pub fn read_ioc(alloc: Global, text: &[u8]) -> Result<Ioc, IocFault>
         rest = others;
         number += 1;
         if let Some(line) = line_of(alloc, &mut scratch, number, bytes)? {
-            push_line(&mut lines, &mut index, line)?;
+            push_line(alloc, &mut lines, &mut places, line)?;
         }
     }
-    Ok(Ioc::of(lines, index))
+    Ok(Ioc::of(lines, places))
 }
