@@ -14,3 +14,6 @@ pub use machine::Machine;
 pub use op::{Answer, Op, Stepped, Timeout};
 pub use pins::{af_kind, is_debug};
 pub use state::{State, Target};
+
+#[cfg(test)]
+mod tests;
