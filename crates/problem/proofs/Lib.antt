@@ -2,5 +2,6 @@ pub mod AgreeLemmas
 pub mod ChosenLemmas
 pub mod DomainLemmas
 pub mod MeetsLemmas
+pub mod SmallLemmas
 pub mod UseLemmas
 pub mod ValueLemmas

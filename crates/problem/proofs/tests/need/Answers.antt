@@ -1,0 +1,6 @@
+use Rattle.std.proofs.Common.{refl}
+use Rattle.problem.proofs.SmallLemmas.{needed}
+use Rattle.problem.proofs.tests.need.Goals as goal
+
+pub returns : goal.returns
+returns c = needed _ c.in_ok-copy.ensures refl refl
