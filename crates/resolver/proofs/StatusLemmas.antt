@@ -30,7 +30,7 @@ ten : IsOfContents 10
 ten = record { no_read_fault = λ e. omega arith; no_length = λ e. omega arith; no_write_fault = λ e. omega arith; no_memory = λ e. omega arith }
 
 pub of_whole : (proof : Bool) (p : ProblemParts) (s : ℕ) (x : List ℕ) → OfWhole proof p s x → IsOfContents s
-of_whole proof p s x (owed.solved c more low asked e f) = at s 0 e zero
+of_whole proof p s x (owed.solved c more low sound asked e f) = at s 0 e zero
 of_whole proof p s x (owed.refuted no_legal shown e) = at s 1 e one
 
 pub of_case : (number : ℕ) (p : ProblemParts) (s : ℕ) (x : List ℕ) → OfCase number p s x → IsOfContents s

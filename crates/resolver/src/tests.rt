@@ -1,9 +1,9 @@
 //! Failing reads and writes, and inputs that are too long. The program's texts are compared by checks/examples.
 ghost use Rattle.std.specs.Prelude.{◌<◌};
 
-use crate::run_plain;
+use crate::{run, run_plain};
 use res_base::{Items, OutOfMemory, Text};
-use res_io::{MemFile, MemInputs, MemSink};
+use res_io::{MemFile, MemInputs, MemSink, NoGate};
 use std::alloc::{AllocError, Global};
 use std::test::Fail;
 
@@ -109,5 +109,52 @@ fn an_input_of_one_byte_too_many_is_told(rt: HostRuntime) -> Result<(), Fail> {
     let status = run_plain(alloc, words.as_slice(), &mut inputs, &mut sink);
     assert_eq!(rt; status, Some(4));
     assert_eq!(rt; sink.written(), b"too long: T\n".as_slice());
+    Ok(())
+}
+
+/// The refutation of every choice under a table that has no flash.
+fn refutation() -> &'static str {
+    "proof 1\nbound none\nL 13\nend\n"
+}
+
+#[test]
+fn a_table_without_flash_leaves_no_choice(rt: HostRuntime) -> Result<(), Fail> {
+    let alloc = rt.alloc();
+    let files = vec![in alloc;
+        file(alloc, "T", table().as_bytes())?,
+        file(alloc, "P", project().as_bytes())?,
+    ]?;
+    let mut inputs = MemInputs::new(alloc, files, Vec::new(alloc), 512);
+    let mut sink = MemSink::new(alloc, Vec::new(alloc), 64);
+    sink.reserve()?;
+    let words = words_of(alloc, "resolve T P")?;
+    let status = run(
+        &rt,
+        alloc,
+        words.as_slice(),
+        &mut inputs,
+        &mut sink,
+        &NoGate,
+    );
+    assert_eq!(rt; status, 1);
+    assert_eq!(rt; sink.written(), refutation().as_bytes());
+    Ok(())
+}
+
+#[test]
+fn its_refutation_is_accepted(rt: HostRuntime) -> Result<(), Fail> {
+    let alloc = rt.alloc();
+    let files = vec![in alloc;
+        file(alloc, "T", table().as_bytes())?,
+        file(alloc, "P", project().as_bytes())?,
+        file(alloc, "R", refutation().as_bytes())?,
+    ]?;
+    let mut inputs = MemInputs::new(alloc, files, Vec::new(alloc), 512);
+    let mut sink = MemSink::new(alloc, Vec::new(alloc), 64);
+    sink.reserve()?;
+    let words = words_of(alloc, "check T P R")?;
+    let status = run_plain(alloc, words.as_slice(), &mut inputs, &mut sink);
+    assert_eq!(rt; status, Some(0));
+    assert_eq!(rt; sink.written(), b"accepted: no choice\n".as_slice());
     Ok(())
 }

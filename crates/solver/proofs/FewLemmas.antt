@@ -1,17 +1,17 @@
 -- A text has at least as many bytes as nodes are read from it.
 use Rattle.std.proofs.Common.{◌≡◌, ℕ, zero, suc, ◌+◌, ◌<◌, ◌≤◌, ◌==◌, ◌&&◌, ◌++◌, Bool, true, false, List, [], ◌∷◌, length, Option, Some, None, Result, Ok, Err, refl, sym, subst, ap, ◌∙◌, arith}
-use Rattle.std.specs.Prelude.{codes}
+use Rattle.std.specs.Prelude.{codes, if◌then◌else◌}
 use Rattle.std.specs.Option.{option_map_or}
 use Rattle.refutation.specs.declared.node.ProofFault.{ProofFault}
 use Rattle.refutation.specs.declared.node.ProofFault.TheVariants as fault
 use Rattle.refutation.specs.Forms.{Form, due_after}
 use Rattle.refutation.specs.Reading.{Line, bound_from, bound_of_text, ended_as, form_of_text, forms_from, is_text, lines_of, onto_line, proof_from, proof_of, with_bound, with_front}
 
-Few : ℕ → Result (List Form) ProofFault → Type 0
+abbrev Few : ℕ → Result (List Form) ProofFault → Type 0
 Few n (Ok forms) = length forms ≤ n
 Few n (Err e) = Unit {0}
 
-FewOf : ℕ → Result (Option ℕ × List Form) ProofFault → Type 0
+abbrev FewOf : ℕ → Result (Option ℕ × List Form) ProofFault → Type 0
 FewOf n (Ok read) = length read.1 ≤ n
 FewOf n (Err e) = Unit {0}
 

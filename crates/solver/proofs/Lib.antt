@@ -1,2 +1,3 @@
-pub mod LeastLemmas
 pub mod FewLemmas
+pub mod LeastLemmas
+pub mod OpLemmas

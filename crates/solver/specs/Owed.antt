@@ -3,6 +3,9 @@ use Rattle.std.specs.Prelude.{◌≡◌, ℕ, List, [], ◌++◌, Bool, true, fa
 use Rattle.choice_rank.specs.Choices.{IsNarrow, IsFirstWide, rank_of}
 use Rattle.choice_rank.specs.Least.{IsLeast, NoneLegal}
 use Rattle.box_rules.specs.Judged.{whole_meaning}
+use Rattle.choice_setup.specs.SetUp.{setting_of}
+use Rattle.init_gen.specs.Good.{IsRight}
+use Rattle.init_gen.specs.Writes.{target_of, writes_of}
 use Rattle.problem.specs.declared.parts.ProblemParts.{ProblemParts}
 use Rattle.problem.specs.Meets.{meets}
 use Rattle.refutation.specs.declared.node.Node.{Node}
@@ -11,6 +14,9 @@ use Rattle.refutation.specs.Forms.{form_of}
 use Rattle.refutation.specs.Reading.{proof_of}
 use Rattle.refutation.specs.Trees.{IsAccepted}
 use Rattle.refute_check.specs.Faults.{fault_at}
+use Rattle.reg_machine.specs.Legal.{IsLegal}
+use Rattle.reg_machine.specs.Reset.{reset_of}
+use Rattle.reg_machine.specs.Run.{Sound}
 use Rattle.report.specs.Cases.{case_text}
 use Rattle.report.specs.Placed.{placement_text}
 use Rattle.report.specs.Reported.{report_text}
@@ -39,9 +45,16 @@ pub data OfCase (number : ℕ) (p : ProblemParts) (s : ℕ) (x : List ℕ) : Typ
   made : (c : List ℕ) → IsLeast p.shape (meets p) c → s ≡ 0 → x ≡ case_text number p c → OfCase number p s x
   unmade : NoneLegal p.shape (meets p) → Says s x 1 (codes "no choice") → OfCase number p s x
 
+-- from reset and for every list of answers of the flags, the accesses of a choice are never forbidden, pass legal states
+-- alone, and end with the clocks and pins of the choice or at an await that timed out
+abbrev pub AreSound : ProblemParts → List ℕ → Type 0
+AreSound p c =
+    Sound (IsLegal p.tables (target_of (setting_of p c))) (IsRight (setting_of p c)) (writes_of (setting_of p c)) (reset_of p.tables (target_of (setting_of p c)))
+
 -- the report of the least choice, or the refutation of all choices
 pub data OfWhole (proof : Bool) (p : ProblemParts) (s : ℕ) (x : List ℕ) : Type 0 where
-  solved : (c more : List ℕ) → IsLeast p.shape (meets p) c → IsMore proof (whole_meaning p) (Some (rank_of p.shape c)) more → s ≡ 0 → x ≡ report_text p c ++ more → OfWhole proof p s x
+  solved : (c more : List ℕ) → IsLeast p.shape (meets p) c → AreSound p c → IsMore proof (whole_meaning p) (Some (rank_of p.shape c)) more
+      → s ≡ 0 → x ≡ report_text p c (writes_of (setting_of p c)) ++ more → OfWhole proof p s x
   refuted : NoneLegal p.shape (meets p) → IsRefutation (whole_meaning p) None x → s ≡ 1 → OfWhole proof p s x
 
 -- what is said of a refutation that is accepted

@@ -1,21 +1,28 @@
 //! The least choice of pins and clocks.
-ghost use Rattle.std.specs.Prelude.{◌≡◌, ◌≢◌, ◌≤◌, ◌<◌, ◌^◌, Bool, None, Some, length, IfOk};
+ghost use Rattle.std.specs.Prelude.{◌≡◌, ◌≢◌, ◌≤◌, ◌<◌, ◌^◌, Bool, None, Some, true, length, IfOk, OnOk};
 ghost use Rattle.res_base.specs.Lists.{Each};
+ghost use Rattle.choice_rank.specs.Choices.{IsChoice};
 ghost use Rattle.choice_rank.specs.Least.{IsAnswer, NoneLegal};
+ghost use Rattle.choice_setup.specs.SetUp.{setting_of};
+ghost use Rattle.init_gen.specs.Writes.{writes_of};
+ghost use Rattle.reg_machine.specs.Words.{IsOp};
+ghost use Rattle.report.specs.Reported.{report_text};
 ghost use Rattle.box_rules.specs.Judged.{whole_meaning};
 ghost use Rattle.problem.specs.Meets.{meets};
 ghost use Rattle.problem.specs.Problem.{AreHomesDue, problem_of};
 ghost use Rattle.problem.specs.declared.parts.Part.TheVariants as part;
 ghost use Rattle.res_model.specs.Placed.{IsPlaced};
 ghost use Rattle.search_api.specs.Accounts.{Accounted};
-ghost use Rattle.solver.specs.Owed.{IsMore, OfProblem, OfWhole};
+ghost use Rattle.solver.specs.Owed.{AreSound, IsMore, OfProblem, OfWhole};
 
 use crate::answer::Answer;
 use crate::least::{least_of, too_wide};
 use crate::proof_text::refutation_text;
 use box_judge::PinClockJudge;
 use choice_rank::ShapeFault;
+use choice_setup::writes;
 use problem::{Part, Problem, build};
+use reg_machine::Op;
 use report::report_text;
 use res_base::OutOfMemory;
 use res_model::{Opts, Project, Tables};
@@ -56,6 +63,29 @@ fn refuted(
     Ok(Answer { status: 1, text })
 }
 
+/// That the accesses of a choice are to registers that there are.
+fn are_registers(p: &Problem, at: &[u16], ops: &[Op])
+    requires { ops.now ≡ writes_of (setting_of p.now at.now) }
+    ensures { Each IsOp ops.now }
+{
+    let _ = p.parts();
+    let _ = at;
+}
+
+/// The report of a choice that meets every limit.
+fn report_of(alloc: Global, p: &Problem, at: &[u16]) -> Result<Vec<u8>, OutOfMemory>
+    requires choice { IsChoice p.now.shape at.now }
+    requires whole { p.now.first ≢ 0 }
+    requires meets { meets p.now at.now ≡ true }
+    ensures report { IfOk result (λ x. x.items ≡ report_text p.now at.now (writes_of (setting_of p.now at.now))) }
+    ensures sound { OnOk result (AreSound p.now at.now) }
+{
+    let ops = writes(alloc, p, at)?;
+    are_registers(p, at, ops.as_slice());
+    let text = report_text(alloc, p, at, ops.as_slice())?;
+    Ok(text)
+}
+
 /// The report of a least choice, with what is asked for behind it.
 fn reported(
     alloc: Global,
@@ -70,7 +100,7 @@ fn reported(
     ensures { IfOk result (λ a. OfWhole proof p.now a.status a.text.items) }
 {
     let at = least_of(alloc, &p.parts().shape, rank)?;
-    let mut text = report_text(alloc, p, at.as_slice())?;
+    let mut text = report_of(alloc, p, at.as_slice())?;
     text.extend_from_slice(more)?;
     Ok(Answer { status: 0, text })
 }

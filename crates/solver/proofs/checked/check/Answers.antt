@@ -9,9 +9,9 @@ use Rattle.problem.specs.declared.parts.ProblemParts.{ProblemParts}
 use Rattle.solver.specs.Owed.{OfProof, narrow, wide}
 use Rattle.solver.proofs.checked.check.Goals as goal
 
-pub checked-requires-whole : goal.checked-requires-whole
+pub checked-requires-clause-whole : goal.checked-requires-clause-whole
 unfolding problem_of
-checked-requires-whole c = subst (λ (q : ProblemParts). q.first ≢ 0) (sym c.in-Ok.ensures.problem) (λ e. omega (arith, e))
+checked-requires-clause-whole c = subst (λ (q : ProblemParts). q.first ≢ 0) (sym c.in-Ok.ensures.problem) (λ e. omega (arith, e))
 
 pub returns-in-Ok : goal.returns-in-Ok
 unfolding problem_of

@@ -1,0 +1,26 @@
+use Rattle.std.proofs.Common.{◌≡◌, ◌∙◌, ◌++◌, ◌<◌, ◌≤◌, ℕ, List, Ok, Err, length, subst, sym, arith}
+use Rattle.std.specs.Prelude.{codes, decimal, map}
+use Rattle.std.proofs.lemmas.Result.{IfOk-weaker}
+use Rattle.std.proofs.lemmas.List.{length-map}
+use Rattle.refutation.specs.declared.node.ProofFault.{ProofFault}
+use Rattle.refutation.specs.declared.node.ProofFault.TheVariants as fault
+use Rattle.refutation.specs.Forms.{form_of}
+use Rattle.refutation.specs.Reading.{Refuses, proof_of}
+use Rattle.solver.specs.Owed.{nodes, unread}
+use Rattle.solver.specs.Said.{Says}
+use Rattle.solver.proofs.FewLemmas.{few_nodes}
+use Rattle.solver.proofs.checked.checked.Goals as goal
+
+pub judged-requires-clause-few : goal.judged-requires-clause-few
+judged-requires-clause-few c =
+    let read = c.in-Ok.proof.nodes in
+    let few : length (map form_of read) ≤ length c.args.text.now = few_nodes c.args.text.now c.in-Ok.proof.bound (map form_of read) c.in-Ok.ensures in
+    omega (arith, few, length-map read form_of, c.requires.few)
+
+pub returns-in-Ok : goal.returns-in-Ok
+returns-in-Ok c = IfOk-weaker c.judged.result _ _ (λ a due. nodes c.in-Ok.proof.bound c.in-Ok.proof.nodes c.in-Ok.ensures due) c.judged.ensures
+
+pub returns-in-Err-Line : goal.returns-in-Err-Line
+returns-in-Err-Line c =
+    let fault : Refuses (fault.Line c.in-Err-Line.line) (proof_of c.args.text.now) = subst (λ (f : ProofFault). Refuses f (proof_of c.args.text.now)) c.in-Err-Line.field-0-is c.in-Err-Line.ensures in
+    IfOk-weaker c.counts.result _ _ (λ a says. unread c.in-Err-Line.line fault (subst (λ (n : ℕ). Says a.status a.text.items 10 (codes "proof: line " ++ decimal n)) c.from.ensures says)) c.counts.ensures
