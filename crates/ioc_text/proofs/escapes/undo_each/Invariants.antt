@@ -1,6 +1,0 @@
-use Rattle.std.proofs.Common.{◌≡◌, drop}
-use Rattle.res_model.specs.Lines.{after_bytes, undone, undone_from}
-use Rattle.ioc_text.proofs.escapes.undo_each.Given as goal
-
-abbrev pub invariant-loop-b : goal.invariant-loop-b
-invariant-loop-b l = after_bytes l.out.items (undone_from l.in_pair (drop l.b-index l.bytes)) ≡ undone l.bytes
