@@ -10,7 +10,7 @@ ghost use Rattle.resolver.specs.Owed.{TellsFor, TellsDue, Settled, IsReadFault, 
 use crate::reading::{of_case, of_files};
 use crate::refusals::refused_words;
 use crate::tasks::{PlacePins, ResolveAll, ShowTree};
-use crate::three::of_three;
+use crate::three::of_check;
 use cmd_words::read_words;
 use res_base::OutOfMemory;
 use res_io::{Gate, Inputs, Sink, SureInputs, SureSink, write_all};
@@ -69,14 +69,7 @@ fn of_command<I: Inputs>(
             project,
             proof,
             opts,
-        } => of_three(
-            alloc,
-            inputs,
-            tables.as_str(),
-            project.as_str(),
-            proof.as_str(),
-            opts,
-        ),
+        } => of_check(alloc, inputs, &tables, &project, &proof, opts),
         Command::Case { number, workers } => {
             if workers > 1 {
                 return says(alloc, 11, "not built: workers");
