@@ -1,11 +1,11 @@
 -- The status and the text that are due for words and files, where nothing of the outside fails.
 use Rattle.std.specs.Prelude.{◌≡◌, ℕ, List, ◌++◌, length, Bool, true, false, nat_lt, Option, Some, None, Result, Ok, Err, MatchResult, MatchBool, ⊤, codes, decimal}
-use Rattle.big_case.specs.Case.{needs, project_text, table_text}
+use Rattle.big_case.specs.Case.{project_text, table_text}
+pub use Rattle.case_rules.specs.Options.{case_opts}
 use Rattle.problem.specs.Problem.{problem_of}
 use Rattle.problem.specs.declared.parts.Part.TheVariants.{PinsOnly, Whole}
 use Rattle.res_model.specs.declared.command.Command.{Command}
 use Rattle.res_model.specs.declared.command.Command.TheVariants.{Pins, Tree, Resolve, Check, Case}
-use Rattle.res_model.specs.declared.command.Free.TheVariants.{All}
 use Rattle.res_model.specs.declared.command.Opts.{Opts}
 use Rattle.res_model.specs.declared.line.Line.{Line}
 use Rattle.res_model.specs.declared.project.Project.{Project}
@@ -65,10 +65,6 @@ CheckTask opts text t p s x = OfProblem (problem_of t p opts Whole) (OfProof tex
 -- `case`: the least choice of a made case
 abbrev pub CaseTask : Opts → ℕ → Task
 CaseTask opts number t p s x = OfProblem (problem_of t p opts Whole) (OfCase number (problem_of t p opts Whole)) s x
-
--- the options under which a made case is read
-abbrev pub case_opts : Opts
-case_opts = record { vdd = 3300; needs = needs; hclk = None; pclk1 = None; pclk2 = None; free = All }
 
 -- `tree`: the clock tree of the homes, which are fixed
 abbrev pub TreeTask : Opts → Task

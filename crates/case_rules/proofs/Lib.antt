@@ -1,0 +1,4 @@
+pub mod OnLiterals
+pub mod ProblemLemmas
+pub mod ProjectLemmas
+pub mod TableLemmas

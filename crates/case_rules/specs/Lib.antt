@@ -1,0 +1,4 @@
+pub mod CaseProblem
+pub mod CaseProject
+pub mod CaseTable
+pub mod Options
