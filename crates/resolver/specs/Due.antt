@@ -1,6 +1,6 @@
 -- The status and the text that are due for words and files, where nothing of the outside fails.
 use Rattle.std.specs.Prelude.{◌≡◌, ℕ, List, ◌++◌, length, Bool, true, false, nat_lt, Option, Some, None, Result, Ok, Err, MatchResult, MatchBool, ⊤, codes, decimal}
-use Rattle.big_case.specs.Case.{project_text, table_text}
+use Rattle.case_rules.specs.CaseProblem.{case_problem}
 pub use Rattle.case_rules.specs.Options.{case_opts}
 use Rattle.problem.specs.Problem.{problem_of}
 use Rattle.problem.specs.declared.parts.Part.TheVariants.{PinsOnly, Whole}
@@ -62,7 +62,7 @@ ResolveTask opts proof t p s x = OfProblem (problem_of t p opts Whole) (OfWhole 
 abbrev pub CheckTask : Opts → List ℕ → Task
 CheckTask opts text t p s x = OfProblem (problem_of t p opts Whole) (OfProof text (problem_of t p opts Whole)) s x
 
--- `case`: the least choice of a made case
+-- the least choice of a made case, where its table and project are read
 abbrev pub CaseTask : Opts → ℕ → Task
 CaseTask opts number t p s x = OfProblem (problem_of t p opts Whole) (OfCase number (problem_of t p opts Whole)) s x
 
@@ -87,12 +87,13 @@ OfThree tables_name project_name proof_name opts (Some table) (Some project) (So
 abbrev pub IfAlone : ℕ → ℕ → List ℕ → Type 0 → Type 0
 IfAlone workers s x due = MatchBool (nat_lt 1 workers) (Says s x 11 (codes "not built: workers")) due
 
+-- `case` has no inputs: its problem is that of the number
 abbrev pub OfCommand : (List ℕ → Option (List ℕ)) → Command → ℕ → List ℕ → Type 0
 OfCommand files (Pins tables project opts) s x = OfFiles tables project opts false (PinsTask opts) (files tables) (files project) s x
 OfCommand files (Tree tables project opts) s x = OfFiles tables project (fixed opts) true (TreeTask (fixed opts)) (files tables) (files project) s x
 OfCommand files (Resolve tables project opts workers proof) s x = IfAlone workers s x (OfFiles tables project opts true (ResolveTask opts proof) (files tables) (files project) s x)
 OfCommand files (Check tables project proof opts) s x = OfThree tables project proof opts (files tables) (files project) (files proof) s x
-OfCommand files (Case number workers) s x = IfAlone workers s x (OfContents case_opts true (CaseTask case_opts number) (table_text number) project_text s x)
+OfCommand files (Case number workers) s x = IfAlone workers s x (OfCase number (case_problem number) s x)
 
 abbrev pub Due : List (List ℕ) → (List ℕ → Option (List ℕ)) → ℕ → List ℕ → Type 0
 Due words files s x = MatchResult (command_of words) (λ c. OfCommand files c s x) (λ f. Says s x 2 (words_refusal f))

@@ -1,5 +1,5 @@
 -- What a call answers for: the text that is due where the inputs tell their files, and the cause of each other answer.
-use Rattle.std.specs.Prelude.{◌≡◌, ◌≢◌, ℕ, List, [], ◌∷◌, ◌++◌, Bool, true, false, Option, Some, None, Result, Ok, Err, MatchResult, ⊤, codes, take}
+use Rattle.std.specs.Prelude.{◌≡◌, ◌≢◌, ◌≤◌, ◌⊎◌, ℕ, List, [], ◌∷◌, ◌++◌, Bool, true, false, Option, Some, None, Result, Ok, Err, MatchResult, ⊤, codes, take}
 use Rattle.std.specs.Io.KnownBytes.{Appends}
 use Rattle.res_base.specs.Lists.{Member}
 use Rattle.res_io.specs.Bytes.{IsOverLimit}
@@ -82,6 +82,22 @@ IsTooLong words current taken text = MatchResult (command_of words) (λ c. TooLo
 -- an input that is too long is told of, unless the command is not served yet
 abbrev pub IsToldIfServed : List (List ℕ) → Option (List ℕ) → ℕ → ℕ → Type 0
 IsToldIfServed words current taken status = status ≢ 11 → MatchResult (command_of words) (λ c. IsToldAt (inputs_of c) current taken status) (λ f. ⊤)
+
+-- a made case is answered by its least choice, or by that there is none
+abbrev pub IsAnswered : ℕ → Type 0
+IsAnswered s = (s ≡ 0) ⊎ (s ≡ 1)
+
+-- `case` has no inputs that could be refused: one worker always answers it
+abbrev pub AnswersCase : Command → ℕ → Type 0
+AnswersCase (Pins tables project opts) s = ⊤
+AnswersCase (Tree tables project opts) s = ⊤
+AnswersCase (Resolve tables project opts workers proof) s = ⊤
+AnswersCase (Check tables project proof opts) s = ⊤
+AnswersCase (Case number workers) s = workers ≤ 1 → IsAnswered s
+
+-- the same of the command that the words ask for
+abbrev pub IsCaseAnswered : List (List ℕ) → ℕ → Type 0
+IsCaseAnswered words s = MatchResult (command_of words) (λ c. AnswersCase c s) (λ f. ⊤)
 
 -- the text that was written is the one that is due with the status
 abbrev pub Settled : List (List ℕ) → Files → Option (List ℕ) → Option (List ℕ) → ℕ → Type 0

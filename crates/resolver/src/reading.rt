@@ -1,13 +1,15 @@
 //! From bytes to what is due for them.
 ghost use Rattle.std.specs.Prelude.{◌≡◌, ◌≢◌, ◌≤◌, [], ◌∷◌, length, true, IfOk};
-ghost use Rattle.big_case.specs.Case.{project_text, table_text};
+ghost use Rattle.case_rules.specs.CaseProblem.{case_problem};
 ghost use Rattle.res_io.specs.Causes.{NoneFell};
-ghost use Rattle.resolver.specs.Due.{CaseTask, OfLines, OfTable, OfContents, case_opts};
-ghost use Rattle.resolver.specs.Owed.{TellsFiles, IsOfContents, IsOwn, ReadFaultAt, TooLongAt, IsToldAt};
+ghost use Rattle.solver.specs.Owed.{OfCase};
+ghost use Rattle.resolver.specs.Due.{OfLines, OfTable, OfContents};
+ghost use Rattle.resolver.specs.Owed.{TellsFiles, IsAnswered, IsOfContents, IsOwn, ReadFaultAt, TooLongAt, IsToldAt};
 
 use crate::refusals::{refused_project, refused_table, refused_text, unread};
 use crate::tasks::{MakeCase, Task};
 use big_case::{Case, make_case};
+use case_rules::project_is_short;
 use ioc_project::read_project;
 use ioc_text::{Ioc, read_ioc};
 use mcu_tables::read_tables;
@@ -16,9 +18,6 @@ use res_io::{Inputs, read_all};
 use res_model::Tables;
 use solver::Answer;
 use std::alloc::Global;
-
-/// The most bytes of a project.
-const MOST_BYTES: usize = 67_108_864;
 
 /// What is due for the lines of a project under a table.
 fn of_lines<T: Task>(
@@ -97,20 +96,18 @@ pub(crate) fn of_files<I: Inputs, T: Task>(
     of_contents(alloc, task, tables.as_slice(), lines.as_slice())
 }
 
-/// Makes a case, and answers what is due for it.
+/// Makes a case, reads it and answers what is due for it.
 pub(crate) fn of_case(alloc: Global, number: u64) -> Result<Answer, OutOfMemory>
-    ensures due { IfOk result (λ a. OfContents case_opts true (CaseTask case_opts number) (table_text number) project_text a.status a.text.items) }
+    ensures due { IfOk result (λ a. OfCase number (case_problem number) a.status a.text.items) }
     ensures status { IfOk result (λ a. IsOfContents a.status) }
+    ensures answered { IfOk result (λ a. IsAnswered a.status) }
 {
     let Case {
         tables,
         project,
         needs,
     } = make_case(alloc, number)?;
-    // A made project has some 3,000 bytes, so that this is never so: it spares a proof of their number.
-    if project.len() > MOST_BYTES {
-        return Err(OutOfMemory);
-    }
+    project_is_short();
     let task = MakeCase::new(number, needs);
     of_contents(alloc, &task, tables.as_slice(), project.as_slice())
 }

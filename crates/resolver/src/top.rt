@@ -5,7 +5,7 @@ ghost use Rattle.res_io.specs.Files.{bytes_in};
 ghost use Rattle.res_model.specs.Words.{command_of};
 ghost use Rattle.resolver.specs.Due.{OfCommand};
 ghost use Rattle.solver.specs.Said.{Says};
-ghost use Rattle.resolver.specs.Owed.{TellsFor, TellsDue, Settled, IsReadFault, IsTooLong, IsToldIfServed, WroteReadFault, WroteTooLong, WroteFront, IsOwn, inputs_of, ReadFaultAt, TooLongAt, IsToldAt, may_wait, waits};
+ghost use Rattle.resolver.specs.Owed.{TellsFor, TellsDue, Settled, IsReadFault, IsTooLong, IsToldIfServed, WroteReadFault, WroteTooLong, WroteFront, IsOwn, inputs_of, ReadFaultAt, TooLongAt, IsToldAt, AnswersCase, IsCaseAnswered, may_wait, waits};
 
 use crate::reading::{of_case, of_files};
 use crate::refusals::refused_words;
@@ -33,6 +33,7 @@ fn of_command<I: Inputs>(
     ensures failed { IfOk result (λ a. a.status ≡ 3 → ReadFaultAt (inputs_of command) (I.faults inputs.old) (I.faults inputs.new) a.text.items) }
     ensures too_long { IfOk result (λ a. a.status ≡ 4 → TooLongAt (inputs_of command) (I.current inputs.new) (I.taken inputs.new) a.text.items) }
     ensures told { IfOk result (λ a. a.status ≢ 11 → IsToldAt (inputs_of command) (I.current inputs.new) (I.taken inputs.new) a.status) }
+    ensures case { IfOk result (λ a. AnswersCase command a.status) }
 {
     match command {
         Command::Pins {
@@ -102,6 +103,7 @@ fn of_words<I: Inputs>(
     ensures failed { IfOk result (λ a. a.status ≡ 3 → IsReadFault (map string_bytes words.now) (I.faults inputs.old) (I.faults inputs.new) a.text.items) }
     ensures too_long { IfOk result (λ a. a.status ≡ 4 → IsTooLong (map string_bytes words.now) (I.current inputs.new) (I.taken inputs.new) a.text.items) }
     ensures told { IfOk result (λ a. IsToldIfServed (map string_bytes words.now) (I.current inputs.new) (I.taken inputs.new) a.status) }
+    ensures case { IfOk result (λ a. IsCaseAnswered (map string_bytes words.now) a.status) }
 {
     match read_words(alloc, words) {
         Ok(command) => of_command(alloc, command, inputs),
@@ -206,6 +208,7 @@ pub fn run<R: Threads + Wait + Sync, I: Inputs, K: Sink, G: Gate + Sync>(
         WroteTooLong (map string_bytes words.now) (I.current inputs.new) (I.taken inputs.new) (K.written out.old) (K.written out.new) }
     ensures told { result ≢ 8 → result ≢ 9 →
         IsToldIfServed (map string_bytes words.now) (I.current inputs.new) (I.taken inputs.new) result }
+    ensures case { result ≢ 8 → result ≢ 9 → IsCaseAnswered (map string_bytes words.now) result }
     ensures write { result ≡ 8 → Rose (K.faults out.old) (K.faults out.new) }
     ensures front { result ≡ 8 → WroteFront (map string_bytes words.now) (I.files inputs.old)
         (I.faults inputs.old) (I.faults inputs.new) (K.written out.old) (K.written out.new) }
@@ -232,6 +235,7 @@ fn run_waiting<I: Inputs, K: Sink>(
         WroteTooLong (map string_bytes words.now) (I.current inputs.new) (I.taken inputs.new) (K.written out.old) (K.written out.new) }
     ensures told { result ≢ 8 → result ≢ 9 →
         IsToldIfServed (map string_bytes words.now) (I.current inputs.new) (I.taken inputs.new) result }
+    ensures case { result ≢ 8 → result ≢ 9 → IsCaseAnswered (map string_bytes words.now) result }
     ensures write { result ≡ 8 → Rose (K.faults out.old) (K.faults out.new) }
     ensures front { result ≡ 8 → WroteFront (map string_bytes words.now) (I.files inputs.old)
         (I.faults inputs.old) (I.faults inputs.new) (K.written out.old) (K.written out.new) }
