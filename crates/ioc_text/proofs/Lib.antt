@@ -1,3 +1,5 @@
 mod Bytewise
 mod Cuts
-mod Indexes
+mod Once
+mod Places
+mod Orders

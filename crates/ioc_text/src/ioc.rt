@@ -1,16 +1,16 @@
-ghost use Rattle.std.specs.Prelude.{◌≡◌, Some, OnOk};
+ghost use Rattle.std.specs.Prelude.{◌≡◌};
 ghost use Rattle.std.specs.Option.{option_copied};
 
+use crate::marks::{Mark, first_repeat, place_of, sorted_marks};
 use res_model::{IocFault, Line};
 use std::alloc::Global;
-use std::collections::BTreeMap;
 use std::marker::Model;
 
 /// The lines of a project's text that have a named key, in the order of the text.
 #[derive(Debug, Drop)]
 pub struct Ioc {
     lines: Vec<Line>,
-    places: BTreeMap<Vec<u8>, usize>,
+    marks: Vec<Mark>,
 }
 
 impl Model for Ioc {
@@ -19,22 +19,30 @@ impl Model for Ioc {
 
     ghost Value = { List Line };
 
-    ghost use Rattle.ioc_text.specs.Index.{IsIndex};
+    ghost use Rattle.ioc_text.specs.Index.{IsIndex, IsEachOnce};
 
     ghost view = { λ i. i.lines.items };
 
-    ghost invariant = { λ i. IsIndex i.places.entries i.lines.items };
+    ghost invariant = { λ i. IsIndex i.marks.items i.lines.items × IsEachOnce i.lines.items };
 }
 
 impl Ioc {
+    ghost use Rattle.res_model.specs.IocFaults.{Gives};
     ghost use Rattle.res_model.specs.Lines.{line_at};
-    ghost use Rattle.ioc_text.specs.Index.{IsIndex};
+    ghost use Rattle.ioc_text.specs.Index.{each_once};
 
-    pub(crate) fn of(lines: Vec<Line>, places: BTreeMap<Vec<u8>, usize>) -> Ioc
-        requires { IsIndex places.entries lines.items }
-        ensures { result ≡ lines.items }
+    /// These lines, unless a key stands twice.
+    pub(crate) fn of(alloc: Global, lines: Vec<Line>) -> Result<Ioc, IocFault>
+        ensures { Gives (λ ioc. ioc) result (each_once lines.items) }
     {
-        Ioc { lines, places }
+        let marks = sorted_marks(alloc, lines.as_slice())?;
+        let first = first_repeat(lines.as_slice(), marks.as_slice());
+        if first < lines.len() {
+            return Err(IocFault::TwiceKey {
+                line: lines[first].number,
+            });
+        }
+        Ok(Ioc { lines, marks })
     }
 
     /// The lines, in the order of the text.
@@ -48,7 +56,7 @@ impl Ioc {
     pub fn get(&self, key: &[u8]) -> Option<&Line>
         ensures { option_copied result ≡ line_at self.now key.now }
     {
-        let place = *self.places.get(key)?;
+        let place = place_of(self.lines.as_slice(), self.marks.as_slice(), key)?;
         Some(&self.lines[place])
     }
 }

@@ -5,6 +5,7 @@ mod escapes;
 mod ioc;
 mod keys;
 mod lines;
+mod marks;
 mod read;
 
 pub use ioc::Ioc;

@@ -1,7 +1,7 @@
-ghost use Rattle.std.specs.Prelude.{◌≡◌, ◌+◌, ◌<◌, ◌^◌, [], ◌∷◌, Some, length, OnOk};
+ghost use Rattle.std.specs.Prelude.{◌≡◌, ◌+◌, ◌<◌, ◌^◌, [], ◌∷◌, Some, length};
 ghost use Rattle.res_model.specs.IocFaults.{Gives};
-ghost use Rattle.res_model.specs.Lines.{equals_at, is_quiet, divided, with_key, with_value, undone, line_of, with_line, ioc_of};
-ghost use Rattle.ioc_text.specs.Index.{IsIndex};
+ghost use Rattle.res_model.specs.Lines.{equals_at, is_quiet, divided, with_key, with_value, undone, line_of, ioc_of};
+ghost use Rattle.ioc_text.specs.Index.{first_fault};
 
 use crate::escapes::{equals_at, undo_into};
 use crate::ioc::Ioc;
@@ -10,7 +10,6 @@ use crate::lines::first_line;
 use res_base::Items;
 use res_model::{IocFault, Line};
 use std::alloc::Global;
-use std::collections::BTreeMap;
 
 /// The line of a named key, whose value is read.
 fn with_value(
@@ -83,34 +82,23 @@ fn line_of(
     }
 }
 
-/// Appends a line, unless its key stood before.
-#[tactic(auto, unfolding(res_model::specs::Lines::with_line))]
-fn push_line(
-    alloc: Global,
-    lines: &mut Vec<Line>,
-    places: &mut BTreeMap<Vec<u8>, usize>,
-    line: Line,
-) -> Result<(), IocFault>
-    requires { IsIndex places.old.entries lines.old.items }
-    ensures lines { Gives (λ _. lines.new.items) result (with_line lines.old.items (Some line)) }
-    ensures index { OnOk result (IsIndex places.new.entries lines.new.items) }
+/// The fault of the first faulty line: that of the first repeated key in the lines before, or else this one.
+fn refused(alloc: Global, lines: Vec<Line>, fault: IocFault) -> Result<Ioc, IocFault>
+    ensures { Gives (λ ioc. ioc) result (first_fault lines.items fault) }
 {
-    let key = Vec::from_slice(alloc, line.key.as_slice())?;
-    if places.insert(key, lines.len())?.is_some() {
-        return Err(IocFault::TwiceKey { line: line.number });
-    }
-    lines.push(line)?;
-    Ok(())
+    Ioc::of(alloc, lines)?;
+    Err(fault)
 }
 
 /// Reads the lines of a project's text that have a named key, or the fault of its first faulty line.
+///
+/// Reading stops at a line with a fault of its own. Whether a key stands twice is asked once, of all lines up to there.
 #[tactic(auto, unfolding(res_model::specs::Lines::ioc_of, res_model::specs::Lines::with_line))]
 pub fn read_ioc(alloc: Global, text: &[u8]) -> Result<Ioc, IocFault>
     requires { length text.now < 2 ^ 32 }
     ensures { Gives (λ ioc. ioc) result (ioc_of text.now) }
 {
     let mut lines = Vec::new(alloc);
-    let mut places = BTreeMap::new(alloc);
     let mut scratch = Vec::new(alloc);
     let mut rest = text;
     let mut number = 0u32;
@@ -118,9 +106,11 @@ pub fn read_ioc(alloc: Global, text: &[u8]) -> Result<Ioc, IocFault>
         let (bytes, others) = first_line(rest);
         rest = others;
         number += 1;
-        if let Some(line) = line_of(alloc, &mut scratch, number, bytes)? {
-            push_line(alloc, &mut lines, &mut places, line)?;
+        match line_of(alloc, &mut scratch, number, bytes) {
+            Ok(Some(line)) => lines.push(line)?,
+            Ok(None) => {}
+            Err(fault) => return refused(alloc, lines, fault),
         }
     }
-    Ok(Ioc::of(lines, places))
+    Ioc::of(alloc, lines)
 }

@@ -83,6 +83,32 @@ fn lines_and_keys(rt: HostRuntime) -> Result<(), Fail> {
 }
 
 #[test]
+fn the_first_faulty_line_is_told(rt: HostRuntime) -> Result<(), Fail> {
+    let cases = [
+        // two keys stand twice, and the one that is repeated first is told, whichever is less
+        (
+            "b.Signal=\na.Signal=\nb.Signal=\na.Signal=",
+            "TwiceKey { line: 3 }",
+        ),
+        (
+            "a.Signal=\nb.Signal=\na.Signal=\nb.Signal=",
+            "TwiceKey { line: 3 }",
+        ),
+        (
+            "a.Signal=\nb.Signal=\nb.Signal=\na.Signal=\na.Signal=\nx",
+            "TwiceKey { line: 3 }",
+        ),
+        // a fault of a line's own, and a repeat before and after it
+        ("a.Signal=\na.Signal=\nx", "TwiceKey { line: 2 }"),
+        ("a.Signal=\nx\na.Signal=", "NoEquals { line: 2 }"),
+    ];
+    for (text, want) in cases {
+        reads(&rt, text.as_bytes(), want)?;
+    }
+    Ok(())
+}
+
+#[test]
 fn long_lines(rt: HostRuntime) -> Result<(), Fail> {
     let mut text = vec![in rt.alloc(); b'#'; 65535]?;
     reads(&rt, text.as_slice(), "")?;
@@ -114,13 +140,20 @@ fn cut_inputs(rt: HostRuntime) -> Result<(), Fail> {
     Ok(())
 }
 
+fn number_of(ioc: &Ioc, key: &[u8]) -> Option<u32> {
+    ioc.get(key).map(|line| line.number)
+}
+
 #[test]
 fn keys_are_looked_up(rt: HostRuntime) -> Result<(), Fail> {
     let ioc = match read_ioc(rt.alloc(), B.as_bytes()) {
         Ok(ioc) => ioc,
         Err(fault) => panic!(rt; "{fault:?}"),
     };
-    assert_eq!(rt; ioc.get(b"Mcu.Pin0").map(|line| line.number), Some(2));
-    assert!(rt; ioc.get(b"Mcu.Pin1").is_none());
+    assert_eq!(rt; number_of(&ioc, b"Mcu.Name"), Some(1));
+    assert_eq!(rt; number_of(&ioc, b"Mcu.Pin0"), Some(2));
+    assert_eq!(rt; number_of(&ioc, b"PB6.Signal"), Some(3));
+    assert_eq!(rt; number_of(&ioc, b"Mcu.Pin1"), None);
+    assert_eq!(rt; number_of(&ioc, b""), None);
     Ok(())
 }
