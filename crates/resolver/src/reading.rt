@@ -1,10 +1,11 @@
 //! From bytes to what is due for them.
 ghost use Rattle.std.specs.Prelude.{◌≡◌, ◌≢◌, ◌≤◌, [], ◌∷◌, length, true, IfOk};
+ghost use Rattle.big_case.specs.Case.{project_text, table_text};
 ghost use Rattle.case_rules.specs.CaseProblem.{case_problem};
 ghost use Rattle.res_io.specs.Causes.{NoneFell};
-ghost use Rattle.solver.specs.Owed.{OfCase};
-ghost use Rattle.resolver.specs.Due.{OfLines, OfTable, OfContents};
+ghost use Rattle.resolver.specs.Due.{CaseTask, OfLines, OfTable, OfContents, case_opts};
 ghost use Rattle.resolver.specs.Owed.{TellsFiles, IsAnswered, IsOfContents, IsOwn, ReadFaultAt, TooLongAt, IsToldAt};
+ghost use Rattle.solver.specs.Owed.{OfCase};
 
 use crate::refusals::{refused_project, refused_table, refused_text, unread};
 use crate::tasks::{MakeCase, Task};
@@ -96,11 +97,10 @@ pub(crate) fn of_files<I: Inputs, T: Task>(
     of_contents(alloc, task, tables.as_slice(), lines.as_slice())
 }
 
-/// Makes a case, reads it and answers what is due for it.
-pub(crate) fn of_case(alloc: Global, number: u64) -> Result<Answer, OutOfMemory>
-    ensures due { IfOk result (λ a. OfCase number (case_problem number) a.status a.text.items) }
+/// Makes a case, and reads its texts.
+fn made_case(alloc: Global, number: u64) -> Result<Answer, OutOfMemory>
+    ensures due { IfOk result (λ a. OfContents case_opts true (CaseTask case_opts number) (table_text number) project_text a.status a.text.items) }
     ensures status { IfOk result (λ a. IsOfContents a.status) }
-    ensures answered { IfOk result (λ a. IsAnswered a.status) }
 {
     let Case {
         tables,
@@ -110,4 +110,13 @@ pub(crate) fn of_case(alloc: Global, number: u64) -> Result<Answer, OutOfMemory>
     project_is_short();
     let task = MakeCase::new(number, needs);
     of_contents(alloc, &task, tables.as_slice(), project.as_slice())
+}
+
+/// What is due for a made case: the readers take its texts.
+pub(crate) fn of_case(alloc: Global, number: u64) -> Result<Answer, OutOfMemory>
+    ensures due { IfOk result (λ a. OfCase number (case_problem number) a.status a.text.items) }
+    ensures status { IfOk result (λ a. IsOfContents a.status) }
+    ensures answered { IfOk result (λ a. IsAnswered a.status) }
+{
+    made_case(alloc, number)
 }
