@@ -1,7 +1,7 @@
 ghost use Rattle.std.specs.Prelude.{◌≡◌, ◌^◌, ◌<◌};
 ghost use Rattle.reg_machine.specs.Legal.{is_legal};
 ghost use Rattle.reg_machine.specs.Words.{IsStored};
-ghost use Rattle.reg_machine.specs.Reset.{reset_of};
+ghost use Rattle.reg_machine.specs.Reset.{reset_gpio, reset_of};
 
 use crate::clocks::{is_choice_legal, is_vco_legal, tree_of};
 use crate::op::{Answer, Op, Stepped};
@@ -125,62 +125,7 @@ fn reset_state(t: &Tables, want: &Target) -> State
         apb1enr: 0,
         apb_read: 0,
         pwr_cr: 0x0000_4000,
-        gpio: [
-            0xA800_0000,
-            0,
-            0x0C00_0000,
-            0x6400_0000,
-            0,
-            0,
-            0x0000_0280,
-            0,
-            0x0000_00C0,
-            0x0000_0100,
-            0,
-            0,
-            0,
-            0,
-            0,
-            0,
-            0,
-            0,
-            0,
-            0,
-            0,
-            0,
-            0,
-            0,
-            0,
-            0,
-            0,
-            0,
-            0,
-            0,
-            0,
-            0,
-            0,
-            0,
-            0,
-            0,
-            0,
-            0,
-            0,
-            0,
-            0,
-            0,
-            0,
-            0,
-            0,
-            0,
-            0,
-            0,
-            0,
-            0,
-            0,
-            0,
-            0,
-            0,
-        ],
+        gpio: reset_gpio(),
         hse_ready: false,
         pll_ready: false,
         latency: 0,
@@ -191,4 +136,19 @@ fn reset_state(t: &Tables, want: &Target) -> State
         bypass: want.facts.bypass,
         prefetch: prefetch(t, want.facts.vdd),
     }
+}
+
+/// The pins for debugging, PA13 to PA15, PB3 and PB4, have their functions, PA13 and PB3 are fast, and PA13, PA14, PA15
+/// and PB4 have their pull resistors.
+fn reset_gpio() -> [u32; 54]
+    ensures { result ≡ reset_gpio }
+{
+    let mut gpio = [0; 54];
+    gpio[0] = 0xA800_0000;
+    gpio[2] = 0x0C00_0000;
+    gpio[3] = 0x6400_0000;
+    gpio[6] = 0x0000_0280;
+    gpio[8] = 0x0000_00C0;
+    gpio[9] = 0x0000_0100;
+    gpio
 }

@@ -1,0 +1,132 @@
+//! Runs of accesses, without clauses, so that no test carries the facts of a table.
+ghost use Rattle.std.specs.Prelude.{◌≡◌, true};
+ghost use Rattle.reg_map.specs.Registers.{IsRegister};
+ghost use Rattle.reg_machine.specs.Words.{IsOp};
+ghost use Rattle.init_gen.specs.Good.{IsSettable};
+
+use crate::settings::table;
+use init_gen::{Setting, generate, target};
+use mcu_tables::read_tables;
+use reg_machine::{Answer, Machine, Op, Stepped};
+use reg_map::Reg;
+use res_base::OutOfMemory;
+use res_model::{TableFault, Tables};
+use std::alloc::Global;
+use std::test::Fail;
+
+/// How a run went: what the last step answered, how many steps it took, and whether each state was legal.
+#[derive(Clone, Copy, Debug, PartialEq, Eq)]
+pub struct Ran {
+    pub last: Stepped,
+    pub steps: u32,
+    pub legal: bool,
+}
+
+fn tables(alloc: Global) -> Result<Tables, TableFault> {
+    read_tables(alloc, table())
+}
+
+/// The machine after reset, with the target of a setting.
+pub fn machine(alloc: Global, s: &Setting) -> Result<Machine, Fail> {
+    let tables = tables(alloc)?;
+    let want = target(s);
+    if want.facts.hse_hz < 0x1_0000_0000 {
+        Ok(Machine::reset(alloc, &tables, &want)?)
+    } else {
+        Err(Fail::from("the frequency of the HSE"))
+    }
+}
+
+/// The accesses that a setting gets.
+pub fn accesses(alloc: Global, s: &Setting) -> Result<Vec<Op>, OutOfMemory>
+    requires { IsSettable s.now }
+{
+    generate(alloc, s)
+}
+
+fn is_there(r: Reg) -> bool
+    ensures { result ≡ true → IsRegister r }
+{
+    match r {
+        Reg::Gpio { port, kind: _ } => port < 9,
+        _ => true,
+    }
+}
+
+fn is_known(op: &Op) -> bool
+    ensures { result ≡ true → IsOp op.now }
+{
+    match *op {
+        Op::Write { reg, value: _ } => is_there(reg),
+        Op::Modify {
+            reg,
+            clear: _,
+            set: _,
+        } => is_there(reg),
+        Op::Read { reg } => is_there(reg),
+        Op::Await {
+            reg,
+            mask: _,
+            want: _,
+            polls: _,
+            name: _,
+        } => is_there(reg),
+    }
+}
+
+/// One step; an access to a port that there is not is forbidden by no rule's number.
+fn stepped(m: &mut Machine, op: &Op, a: Answer) -> Stepped {
+    if is_known(op) {
+        m.step(op, a)
+    } else {
+        Stepped::Forbidden { rule: 0 }
+    }
+}
+
+pub fn is_legal(m: &Machine) -> bool {
+    m.legal()
+}
+
+/// An access until it is no longer waited for.
+fn ended(m: &mut Machine, op: &Op, a: Answer) -> Ran {
+    let mut legal = true;
+    for before in 0..200_000u32 {
+        let last = stepped(m, op, a);
+        legal = is_legal(m) && legal;
+        if last != Stepped::Waiting {
+            return Ran {
+                last,
+                steps: before + 1,
+                legal,
+            };
+        }
+    }
+    Ran {
+        last: Stepped::Waiting,
+        steps: 200_000,
+        legal,
+    }
+}
+
+fn and_then(before: Ran, next: Ran) -> Ran {
+    Ran {
+        last: next.last,
+        steps: before.steps.saturating_add(next.steps),
+        legal: before.legal && next.legal,
+    }
+}
+
+/// The accesses one after the other, up to the first that does not go on, with the same answer at each step.
+pub fn run(m: &mut Machine, ops: &[Op], a: Answer) -> Ran {
+    let mut ran = Ran {
+        last: Stepped::Went,
+        steps: 0,
+        legal: is_legal(m),
+    };
+    for op in ops {
+        if ran.last == Stepped::Went {
+            ran = and_then(ran, ended(m, op, a));
+        }
+    }
+    ran
+}

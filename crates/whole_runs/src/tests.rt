@@ -1,0 +1,251 @@
+//! Expected values are read off RM0090 and the data sheet, or worked out by hand.
+ghost use Rattle.std.specs.Prelude.{◌<◌};
+
+use crate::runs::{Ran, accesses, is_legal, machine, run};
+use crate::settings::{board, clock_pin};
+use reg_machine::{Answer, Machine, Op, Stepped, Timeout};
+use reg_map::{GpioReg, Reg};
+use res_base::Ratio;
+use res_model::{Mode, Nodes};
+use std::alloc::Global;
+use std::test::Fail;
+
+const NO: Answer = Answer {
+    hse: false,
+    pll: false,
+    latency: false,
+    switch: false,
+};
+
+const YES: Answer = Answer {
+    hse: true,
+    pll: true,
+    latency: true,
+    switch: true,
+};
+
+fn write(reg: Reg, value: u32) -> Op {
+    Op::Write { reg, value }
+}
+
+fn modify(reg: Reg, clear: u32, set: u32) -> Op {
+    Op::Modify { reg, clear, set }
+}
+
+fn read(reg: Reg) -> Op {
+    Op::Read { reg }
+}
+
+fn wait(reg: Reg, mask: u32, want: u32, polls: u32, name: Timeout) -> Op {
+    Op::Await {
+        reg,
+        mask,
+        want,
+        polls,
+        name,
+    }
+}
+
+fn port_b(kind: GpioReg) -> Reg {
+    Reg::Gpio { port: 1, kind }
+}
+
+/// From a crystal of 8 MHz to 168 MHz, and then the enables of ports A and D.
+fn board_clock() -> [Op; 12] {
+    [
+        modify(Reg::Cr, 0, 0x0001_0000),
+        wait(Reg::Cr, 0x0002_0000, 0x0002_0000, 100_000, Timeout::Hse),
+        write(Reg::Pllcfgr, 0x2740_5408),
+        modify(Reg::Cr, 0, 0x0100_0000),
+        wait(Reg::Cr, 0x0200_0000, 0x0200_0000, 10_000, Timeout::Pll),
+        write(Reg::Acr, 0x0000_0705),
+        wait(Reg::Acr, 0x0000_0007, 5, 1_000, Timeout::Latency),
+        modify(Reg::Cfgr, 0x0000_FCF0, 0x0000_9400),
+        modify(Reg::Cfgr, 0x0000_0003, 0x0000_0002),
+        wait(Reg::Cfgr, 0x0000_000C, 8, 100_000, Timeout::Switch),
+        modify(Reg::Ahb1enr, 0, 0x0000_0009),
+        read(Reg::Ahb1enr),
+    ]
+}
+
+/// HSI as it is, and PB3 from AF0 to AF5.
+fn clock_pin_accesses() -> [Op; 10] {
+    [
+        write(Reg::Acr, 0x0000_0700),
+        wait(Reg::Acr, 0x0000_0007, 0, 1_000, Timeout::Latency),
+        modify(Reg::Cfgr, 0x0000_FCF0, 0),
+        modify(Reg::Ahb1enr, 0, 0x0000_0002),
+        read(Reg::Ahb1enr),
+        modify(port_b(GpioReg::Pupdr), 0x0000_00C0, 0),
+        modify(port_b(GpioReg::Ospeedr), 0x0000_00C0, 0),
+        modify(port_b(GpioReg::Otyper), 0x0000_0008, 0),
+        modify(port_b(GpioReg::Afrl), 0x0000_F000, 0x0000_5000),
+        modify(port_b(GpioReg::Moder), 0x0000_00C0, 0x0000_0080),
+    ]
+}
+
+fn nodes(m: &Machine) -> Nodes {
+    m.nodes_of()
+}
+
+fn mode(m: &Machine, place: u8) -> Mode
+    requires { place < 144 }
+{
+    m.mode_of(place)
+}
+
+/// SWS of RCC_CFGR.
+fn source(m: &Machine) -> u32 {
+    m.word(Reg::Cfgr) / 4 % 4
+}
+
+/// Whether a node of the PLL is so many hertz.
+fn is_hertz(node: Option<Ratio>, hertz: u64) -> bool {
+    match node {
+        Some(node) => node.floor() == hertz,
+        None => false,
+    }
+}
+
+#[test]
+fn the_board_has_its_accesses(rt: HostRuntime) -> Result<(), Fail> {
+    let ops = accesses(rt.alloc(), &board())?;
+    assert!(rt; ops.as_slice().starts_with(board_clock().as_slice()));
+    assert_eq!(rt;
+        ops.len(),
+        12 + 2 * 5 + 4 * 4,
+        "two alternate functions and four outputs"
+    );
+    Ok(())
+}
+
+#[test]
+fn a_crystal_that_never_starts_ends_the_run(rt: HostRuntime) -> Result<(), Fail> {
+    let ops = accesses(rt.alloc(), &board())?;
+    let mut m = machine(rt.alloc(), &board())?;
+    let ran = run(&mut m, ops.as_slice(), Answer { hse: false, ..YES });
+    assert_eq!(rt;
+        ran,
+        Ran {
+            last: Stepped::TimedOut { name: Timeout::Hse },
+            steps: 1 + 100_000,
+            legal: true,
+        },
+        "HSEON, and the last poll"
+    );
+    assert_eq!(rt; source(&m), 0, "HSI");
+    assert_eq!(rt; nodes(&m).sysclk.floor(), 16_000_000);
+    Ok(())
+}
+
+#[test]
+fn the_board_comes_to_168_mhz(rt: HostRuntime) -> Result<(), Fail> {
+    let ops = accesses(rt.alloc(), &board())?;
+    let mut m = machine(rt.alloc(), &board())?;
+    let ran = run(&mut m, ops.as_slice(), YES);
+    assert_eq!(rt;
+        ran,
+        Ran {
+            last: Stepped::Went,
+            steps: 38,
+            legal: true,
+        },
+        "each flag at the first poll"
+    );
+    assert_eq!(rt; source(&m), 2, "the PLL");
+    let n = nodes(&m);
+    assert_eq!(rt; n.sysclk.floor(), 168_000_000);
+    assert_eq!(rt; n.hclk.floor(), 168_000_000);
+    assert_eq!(rt; n.pclk1.floor(), 42_000_000);
+    assert_eq!(rt; n.pclk2.floor(), 84_000_000);
+    assert_eq!(rt; n.tim1.floor(), 84_000_000);
+    assert_eq!(rt; n.tim2.floor(), 168_000_000);
+    assert!(rt; is_hertz(n.vco_in, 1_000_000));
+    assert!(rt; is_hertz(n.vco, 336_000_000));
+    assert!(rt; is_hertz(n.clk48, 48_000_000));
+    Ok(())
+}
+
+#[test]
+fn the_pins_of_the_board_have_their_modes(rt: HostRuntime) -> Result<(), Fail> {
+    let ops = accesses(rt.alloc(), &board())?;
+    let mut m = machine(rt.alloc(), &board())?;
+    let _ = run(&mut m, ops.as_slice(), YES);
+    assert_eq!(rt; mode(&m, 11), Mode::Alt(10), "USB_DM");
+    assert_eq!(rt; mode(&m, 14), Mode::Alt(0), "SWCLK");
+    assert_eq!(rt; mode(&m, 63), Mode::Output, "PD15");
+    assert_eq!(rt; mode(&m, 112), Mode::Input, "OSC_IN, as at reset");
+    Ok(())
+}
+
+#[test]
+fn pb3_goes_from_af0_to_af5(rt: HostRuntime) -> Result<(), Fail> {
+    let ops = accesses(rt.alloc(), &clock_pin())?;
+    assert_eq!(rt; ops.as_slice(), clock_pin_accesses().as_slice());
+    let mut m = machine(rt.alloc(), &clock_pin())?;
+    assert_eq!(rt; mode(&m, 19), Mode::Alt(0), "JTDO");
+    let ran = run(&mut m, ops.as_slice(), YES);
+    assert_eq!(rt;
+        ran,
+        Ran {
+            last: Stepped::Went,
+            steps: 10,
+            legal: true,
+        }
+    );
+    assert_eq!(rt; mode(&m, 19), Mode::Alt(5), "SPI1_SCK");
+    Ok(())
+}
+
+/// The last answer to accesses from reset, with the board's target, where no flag ever comes.
+fn last(alloc: Global, ops: &[Op]) -> Result<Stepped, Fail> {
+    let mut m = machine(alloc, &board())?;
+    Ok(run(&mut m, ops, NO).last)
+}
+
+#[test]
+fn clocks_are_forbidden_from_reset(rt: HostRuntime) -> Result<(), Fail> {
+    let again = [
+        modify(Reg::Cr, 0, 0x0100_0000),
+        write(Reg::Pllcfgr, 0x2400_3010),
+    ];
+    assert_eq!(rt;
+        last(rt.alloc(), again.as_slice())?,
+        Stepped::Forbidden { rule: 7 },
+        "PLLON is set"
+    );
+    let hse = [wait(Reg::Cr, 0x0002_0000, 0x0002_0000, 10, Timeout::Hse)];
+    assert_eq!(rt;
+        last(rt.alloc(), hse.as_slice())?,
+        Stepped::Forbidden { rule: 18 },
+        "HSEON is not"
+    );
+    let third = [modify(Reg::Cfgr, 0, 0x0000_0003)];
+    assert_eq!(rt;
+        last(rt.alloc(), third.as_slice())?,
+        Stepped::Forbidden { rule: 9 },
+        "no source has 3"
+    );
+    Ok(())
+}
+
+#[test]
+fn a_port_wants_its_enable_read_from_reset(rt: HostRuntime) -> Result<(), Fail> {
+    let moder = write(port_b(GpioReg::Moder), 0x0000_0280);
+    let enable = modify(Reg::Ahb1enr, 0, 0x0000_0002);
+    assert_eq!(rt;
+        last(rt.alloc(), [moder].as_slice())?,
+        Stepped::Forbidden { rule: 17 },
+        "off"
+    );
+    assert_eq!(rt;
+        last(rt.alloc(), [enable, moder].as_slice())?,
+        Stepped::Forbidden { rule: 17 },
+        "not read"
+    );
+    assert_eq!(rt;
+        last(rt.alloc(), [enable, read(Reg::Ahb1enr), moder].as_slice())?,
+        Stepped::Went
+    );
+    Ok(())
+}
