@@ -1,4 +1,4 @@
-ghost use Rattle.std.specs.Prelude.{◌≡◌, ◌≢◌, IfOk, take};
+ghost use Rattle.std.specs.Prelude.{◌≡◌, ◌≢◌, IsOkAnd, take};
 ghost use Rattle.search_api.proofs.ShapeLemmas.{shape_prop};
 ghost use Rattle.res_model.specs.Ranges.{shown_limit};
 ghost use Rattle.box_rules.specs.Judged.{IsWhole, clock_box, whole_meaning, whole_verdict};
@@ -27,7 +27,7 @@ impl PinClockJudge {
     /// The judge of a problem that has the clock variables too.
     pub fn new(_alloc: Global, p: Problem) -> Result<PinClockJudge, OutOfMemory>
         requires { p.first ≢ 0 }
-        ensures { IfOk result (λ j. j.problem ≡ p) }
+        ensures { IsOkAnd result (λ j. j.problem ≡ p) }
     {
         is_whole(&p);
         Ok(PinClockJudge { problem: p })

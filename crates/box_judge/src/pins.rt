@@ -1,4 +1,4 @@
-ghost use Rattle.std.specs.Prelude.{◌≡◌, IfOk};
+ghost use Rattle.std.specs.Prelude.{◌≡◌, IsOkAnd};
 ghost use Rattle.search_api.proofs.ShapeLemmas.{shape_prop};
 ghost use Rattle.box_rules.specs.Judged.{IsReady, pin_meaning, pin_verdict};
 ghost use Rattle.box_split.specs.Boxes.{IsBox};
@@ -26,7 +26,7 @@ impl PinJudge {
     /// The judge of a problem that has signals alone.
     pub fn new(_alloc: Global, p: Problem) -> Result<PinJudge, OutOfMemory>
         requires { p.first ≡ 0 }
-        ensures { IfOk result (λ j. j.problem ≡ p) }
+        ensures { IsOkAnd result (λ j. j.problem ≡ p) }
     {
         is_ready(&p);
         Ok(PinJudge { problem: p })

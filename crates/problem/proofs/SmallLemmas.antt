@@ -16,7 +16,7 @@ two_bytes : IsText (codes "X4")
 two_bytes = record { some_byte = omega arith; short = omega arith; printing = ((omega arith, omega arith), ((omega arith, omega arith), tt)) }
 
 -- PA and a digit
-is_pin : (n : ℕ) → n ≤ 3 → spot (80 ∷ 65 ∷ (48 + n) ∷ []) ≡ Some (0, n) → IsPin (small_pin (80 ∷ 65 ∷ (48 + n) ∷ []) n)
+is_pin : (n : ℕ) → n ≤ 1 → spot (80 ∷ 65 ∷ (48 + n) ∷ []) ≡ Some (0, n) → IsPin (small_pin (80 ∷ 65 ∷ (48 + n) ∷ []) n)
 is_pin n l e = record {
   text = record { some_byte = omega arith; short = omega arith; printing = ((omega arith, omega arith), ((omega arith, omega arith), ((omega arith, omega (arith, l)), tt))) };
   named = e;
@@ -29,19 +29,16 @@ two_pins m n l = record {
   places = λ p e. absurd (omega (arith, e, l));
 }
 
-rows_are : AreRows 4 role.Alt small_signal.at
+rows_are : AreRows 2 role.Alt small_signal.at
 rows_are = record {
   few = omega arith;
-  at_pins = (omega arith, (omega arith, (omega arith, (omega arith, tt))));
-  modes = (omega arith, (omega arith, (omega arith, (omega arith, tt))));
-  apart = (
-    ((λ e. absurd (omega (arith, e))), ((λ e. absurd (omega (arith, e))), ((λ e. absurd (omega (arith, e))), tt))),
-    (((λ e. absurd (omega (arith, e))), ((λ e. absurd (omega (arith, e))), tt)), (((λ e. absurd (omega (arith, e))), tt), (tt, tt))),
-  );
+  at_pins = (omega arith, (omega arith, tt));
+  modes = (omega arith, (omega arith, tt));
+  apart = ((λ e. absurd (omega (arith, e)), tt), (tt, tt));
   due = omega arith;
 }
 
-signal_is : IsSignal 4 small_signal
+signal_is : IsSignal 2 small_signal
 signal_is = record {
   text = two_bytes;
   named = λ e. let k = ap length e in absurd (omega (arith, k));
@@ -85,7 +82,7 @@ flash_is = record {
   ordered = omega arith;
   rows_some = omega arith;
   rows_few = omega arith;
-  ascending = ((omega arith, (omega arith, tt)), ((omega arith, tt), (tt, tt)));
+  ascending = (tt, tt);
   reset = omega arith;
 }
 
@@ -99,11 +96,8 @@ valid = record {
   «package» = letter 75 (omega arith) (omega arith);
   pins = record {
     few = omega arith;
-    each = (is_pin 0 (omega arith) refl, (is_pin 1 (omega arith) refl, (is_pin 2 (omega arith) refl, (is_pin 3 (omega arith) refl, tt))));
-    differ = (
-      (two_pins 0 1 (omega arith), (two_pins 0 2 (omega arith), (two_pins 0 3 (omega arith), tt))),
-      ((two_pins 1 2 (omega arith), (two_pins 1 3 (omega arith), tt)), ((two_pins 2 3 (omega arith), tt), (tt, tt))),
-    );
+    each = (is_pin 0 (omega arith) refl, (is_pin 1 (omega arith) refl, tt));
+    differ = ((two_pins 0 1 (omega arith), tt), (tt, tt));
   };
   signals = record { few = omega arith; each = (signal_is, tt); differ = (tt, tt) };
   hse_in = letter 73 (omega arith) (omega arith);

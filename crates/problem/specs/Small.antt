@@ -1,4 +1,4 @@
--- A small table for the tests: four pins, and a signal that can be at each.
+-- A small table for the tests: two pins, and a signal that can be at each.
 use Rattle.std.specs.Prelude.{ℕ, List, [], ◌∷◌, None, true, false, codes}
 use Rattle.res_model.specs.declared.table.Bounds.{Bounds}
 use Rattle.res_model.specs.declared.table.Domains.{Domains}
@@ -22,7 +22,7 @@ small_signal = record {
   role = role.Alt;
   ip = None;
   drain = false;
-  at = small_row 0 ∷ small_row 1 ∷ small_row 2 ∷ small_row 3 ∷ [];
+  at = small_row 0 ∷ small_row 1 ∷ [];
 }
 
 -- PCLK1 is SYSCLK or half of it, and every other divider has one value
@@ -50,13 +50,13 @@ small_bounds = record {
 }
 
 abbrev pub small_flash : FlashRange
-small_flash = record { from = 2700; to = 3600; prefetch = true; rows = 30000000 ∷ 60000000 ∷ 90000000 ∷ [] }
+small_flash = record { from = 2700; to = 3600; prefetch = true; rows = 90000000 ∷ [] }
 
 unfoldable pub small : TableParts
 small = record {
   names = codes "M" ∷ [];
   «package» = codes "K";
-  pins = small_pin (codes "PA0") 0 ∷ small_pin (codes "PA1") 1 ∷ small_pin (codes "PA2") 2 ∷ small_pin (codes "PA3") 3 ∷ [];
+  pins = small_pin (codes "PA0") 0 ∷ small_pin (codes "PA1") 1 ∷ [];
   signals = small_signal ∷ [];
   hse_in = codes "I";
   hse_out = codes "O";

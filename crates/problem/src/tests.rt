@@ -10,40 +10,40 @@ use crate::{Part, Problem, build};
 use choice_rank::ShapeFault;
 use res_base::{Items, OutOfMemory, Text};
 use res_model::{
-    Bounds, Domains, FlashRange, Free, Home, Mode, Opts, Pin, PinUse, Project, Pull, Role, Scale,
-    Signal, Speed, Src, TableParts, TableSignal, Tables,
+    Bounds, ClockChoice, Domains, FlashRange, Free, Home, Mode, Opts, Pin, PinUse, Project, Pull,
+    Role, Scale, Signal, Speed, Src, TableParts, TableSignal, Tables,
 };
 use std::alloc::Global;
+use std::process::Abort;
 use std::test::Fail;
 
-fn numbers(alloc: Global, values: &[u16]) -> Result<Items<u16>, OutOfMemory>
-    ensures { IfOk result (λ v. v ≡ values.now) }
+fn text(rt: &impl Abort, alloc: Global, text: &str) -> Text
+    ensures { result ≡ text.now }
 {
-    Ok(Items::of(Vec::from_slice(alloc, values)?))
+    Text::copy(alloc, text).expect(rt, "memory")
 }
 
-fn pin(alloc: Global, name: &str, number: u8) -> Result<Pin, OutOfMemory>
-    ensures { IfOk result (λ p. p ≡ small_pin name.now number) }
+fn numbers(rt: &impl Abort, alloc: Global, values: &[u16]) -> Items<u16>
+    ensures { result ≡ values.now }
 {
-    Ok(Pin {
-        name: Text::copy(alloc, name)?,
+    Items::of(Vec::from_slice(alloc, values).expect(rt, "memory"))
+}
+
+fn pin(rt: &impl Abort, alloc: Global, name: &str, number: u8) -> Pin
+    ensures { result ≡ small_pin name.now number }
+{
+    Pin {
+        name: text(rt, alloc, name),
         port: 0,
         number,
-    })
+    }
 }
 
-fn pins(alloc: Global) -> Result<Items<Pin>, OutOfMemory>
-    ensures { IfOk result (λ ps. ps ≡ small_pin (codes "PA0") 0 ∷ small_pin (codes "PA1") 1 ∷ small_pin (codes "PA2") 2 ∷ small_pin (codes "PA3") 3 ∷ []) }
+fn pins(rt: &impl Abort, alloc: Global) -> Items<Pin>
+    ensures { result ≡ small_pin (codes "PA0") 0 ∷ small_pin (codes "PA1") 1 ∷ [] }
 {
-    Ok(Items::of(Vec::from_array(
-        alloc,
-        [
-            pin(alloc, "PA0", 0)?,
-            pin(alloc, "PA1", 1)?,
-            pin(alloc, "PA2", 2)?,
-            pin(alloc, "PA3", 3)?,
-        ],
-    )?))
+    let pins = [pin(rt, alloc, "PA0", 0), pin(rt, alloc, "PA1", 1)];
+    Items::of(Vec::from_array(alloc, pins).expect(rt, "memory"))
 }
 
 fn row(pin: u8) -> PinUse
@@ -55,33 +55,38 @@ fn row(pin: u8) -> PinUse
     }
 }
 
-fn signals(alloc: Global) -> Result<Items<TableSignal>, OutOfMemory>
-    ensures { IfOk result (λ ss. ss ≡ small_signal ∷ []) }
+fn rows(rt: &impl Abort, alloc: Global) -> Items<PinUse>
+    ensures { result ≡ small_row 0 ∷ small_row 1 ∷ [] }
 {
-    let rows = Vec::from_array(alloc, [row(0), row(1), row(2), row(3)])?;
+    Items::of(Vec::from_array(alloc, [row(0), row(1)]).expect(rt, "memory"))
+}
+
+fn signals(rt: &impl Abort, alloc: Global) -> Items<TableSignal>
+    ensures { result ≡ small_signal ∷ [] }
+{
     let signal = TableSignal {
-        name: Text::copy(alloc, "X4")?,
+        name: text(rt, alloc, "X4"),
         role: Role::Alt,
         ip: None,
         drain: false,
-        at: Items::of(rows),
+        at: rows(rt, alloc),
     };
-    Ok(Items::of(Vec::from_array(alloc, [signal])?))
+    Items::of(Vec::from_array(alloc, [signal]).expect(rt, "memory"))
 }
 
-fn domains(alloc: Global) -> Result<Domains, OutOfMemory>
-    ensures { IfOk result (λ d. d ≡ small_domains) }
+fn domains(rt: &impl Abort, alloc: Global) -> Domains
+    ensures { result ≡ small_domains }
 {
-    Ok(Domains {
-        hpre: numbers(alloc, &[1])?,
-        p: numbers(alloc, &[2])?,
+    Domains {
+        hpre: numbers(rt, alloc, &[1]),
+        p: numbers(rt, alloc, &[2]),
         m: (16, 16),
         n: (168, 168),
         q: (7, 7),
-        ppre1: numbers(alloc, &[1, 2])?,
-        ppre2: numbers(alloc, &[1])?,
-        vos: numbers(alloc, &[1])?,
-    })
+        ppre1: numbers(rt, alloc, &[1, 2]),
+        ppre2: numbers(rt, alloc, &[1]),
+        vos: numbers(rt, alloc, &[1]),
+    }
 }
 
 fn bounds() -> Bounds
@@ -98,75 +103,76 @@ fn bounds() -> Bounds
     }
 }
 
-fn flash(alloc: Global) -> Result<Items<FlashRange>, OutOfMemory>
-    ensures { IfOk result (λ rs. rs ≡ small_flash ∷ []) }
+fn flash(rt: &impl Abort, alloc: Global) -> Items<FlashRange>
+    ensures { result ≡ small_flash ∷ [] }
 {
-    let rows = Vec::from_array(alloc, [30_000_000, 60_000_000, 90_000_000])?;
+    let rows = Vec::from_array(alloc, [90_000_000]).expect(rt, "memory");
     let range = FlashRange {
         from: 2700,
         to: 3600,
         prefetch: true,
         rows: Items::of(rows),
     };
-    Ok(Items::of(Vec::from_array(alloc, [range])?))
+    Items::of(Vec::from_array(alloc, [range]).expect(rt, "memory"))
 }
 
 #[tactic(auto, unfolding(crate::specs::Small::small))]
-fn parts(alloc: Global) -> Result<TableParts, OutOfMemory>
-    ensures { IfOk result (λ t. t ≡ small) }
+fn parts(rt: &impl Abort, alloc: Global) -> TableParts
+    ensures { result ≡ small }
 {
-    let name = Text::copy(alloc, "M")?;
+    let names = Vec::from_array(alloc, [text(rt, alloc, "M")]).expect(rt, "memory");
     let scale = Scale {
         vos: 1,
         max: 168_000_000,
     };
-    Ok(TableParts {
-        names: Items::of(Vec::from_array(alloc, [name])?),
-        package: Text::copy(alloc, "K")?,
-        pins: pins(alloc)?,
-        signals: signals(alloc)?,
-        hse_in: Text::copy(alloc, "I")?,
-        hse_out: Text::copy(alloc, "O")?,
+    let scales = Vec::from_array(alloc, [scale]).expect(rt, "memory");
+    TableParts {
+        names: Items::of(names),
+        package: text(rt, alloc, "K"),
+        pins: pins(rt, alloc),
+        signals: signals(rt, alloc),
+        hse_in: text(rt, alloc, "I"),
+        hse_out: text(rt, alloc, "O"),
         ips: Items::of(Vec::new(alloc)),
-        clock: domains(alloc)?,
+        clock: domains(rt, alloc),
         limits: bounds(),
-        scales: Items::of(Vec::from_array(alloc, [scale])?),
-        flash: flash(alloc)?,
+        scales: Items::of(scales),
+        flash: flash(rt, alloc),
         defaults: [0, 0, 1, 2, 16, 168, 7, 1, 1, 1],
         hse_hz: 8_000_000,
-    })
+    }
 }
 
-fn table(alloc: Global) -> Result<Tables, OutOfMemory>
-    ensures { IfOk result (λ t. t ≡ small) }
+fn table(rt: &impl Abort, alloc: Global) -> Tables
+    ensures { result ≡ small }
 {
-    Ok(Tables::of(parts(alloc)?))
+    Tables::of(parts(rt, alloc))
 }
 
-fn need(alloc: Global) -> Result<Signal, OutOfMemory>
-    ensures { IfOk result (λ s. IsPlaced small s) }
+fn need(rt: &impl Abort, alloc: Global) -> Signal
+    ensures { IsPlaced small result }
 {
-    Ok(Signal {
-        name: Text::copy(alloc, "X4")?,
+    Signal {
+        name: text(rt, alloc, "X4"),
         home: None,
         locked: false,
         need: true,
         pull: Pull::None,
         speed: Speed::Low,
-    })
+    }
 }
 
 #[tactic(auto, using(res_base::proofs::ListLemmas::each_push))]
-fn needs(alloc: Global, count: usize) -> Result<Items<Signal>, OutOfMemory>
+fn needs(rt: &impl Abort, alloc: Global, count: usize) -> Items<Signal>
     requires { count ≤ 160 }
-    ensures many { IfOk result (λ ss. length ss ≡ count) }
-    ensures placed { IfOk result (λ ss. Each (IsPlaced small) ss) }
+    ensures many { length result ≡ count }
+    ensures placed { Each (IsPlaced small) result }
 {
-    let mut found = Vec::with_capacity(alloc, count)?;
+    let mut found = Vec::new(alloc);
     for _ in 0..count {
-        found.push(need(alloc)?)?;
+        found.push(need(rt, alloc)).expect(rt, "memory");
     }
-    Ok(Items::of(found))
+    Items::of(found)
 }
 
 /// The PLL at 84 MHz, with half of it for APB1.
@@ -179,7 +185,7 @@ fn homes() -> [Home; 10] {
 }
 
 /// The problem of so many needs of the signal, with each variable free.
-fn problem(alloc: Global, count: usize, part: Part) -> Result<Problem, ShapeFault>
+fn problem(rt: &impl Abort, alloc: Global, count: usize, part: Part) -> Result<Problem, ShapeFault>
     requires { count ≤ 160 }
     ensures many { IfOk result (λ p. length p.signals ≡ count) }
     ensures first { IfOk result (λ p. p.first ≡ first_of part) }
@@ -192,19 +198,13 @@ fn problem(alloc: Global, count: usize, part: Part) -> Result<Problem, ShapeFaul
         pclk2: None,
         free: Free::All,
     };
-    let Ok(tables) = table(alloc) else {
-        return Err(ShapeFault::Memory);
-    };
-    let Ok(signals) = needs(alloc, count) else {
-        return Err(ShapeFault::Memory);
-    };
     let project = Project {
-        signals,
+        signals: needs(rt, alloc, count),
         clock: homes(),
         hse_hz: 8_000_000,
         marks: Items::of(Vec::new(alloc)),
     };
-    build(alloc, tables, project, &opts, part)
+    build(alloc, table(rt, alloc), project, &opts, part)
 }
 
 /// The choice of a rank.
@@ -217,40 +217,66 @@ fn choice(alloc: Global, p: &Problem, rank: u64) -> Result<Vec<u16>, OutOfMemory
     Ok(at)
 }
 
+/// Sixty-three of them have 2^63 choices, which cost nothing, so all their ranks are below 2^63.
 #[test]
-fn forty_variables_of_four_values_are_too_wide(rt: HostRuntime) -> Result<(), Fail> {
-    let found = problem(rt.alloc(), 40, Part::PinsOnly);
-    assert!(rt; matches!(&found, Err(ShapeFault::TooWide { variable: 31 })));
+fn sixty_four_variables_of_two_values_are_too_wide(rt: HostRuntime) -> Result<(), Fail> {
+    let found = problem(&rt, rt.alloc(), 64, Part::PinsOnly);
+    assert!(rt; matches!(&found, Err(ShapeFault::TooWide { variable: 63 })));
     Ok(())
 }
 
-/// The four pins, by the ranks of two needs: their positions are the digits of a rank to the base 4.
+/// Whether the choice of a rank meets the limits of a problem.
+fn fits(rt: &impl Abort, alloc: Global, count: usize, part: Part, rank: u64) -> Result<bool, Fail>
+    requires { count ≤ 160 }
+{
+    let p = problem(rt, alloc, count, part)?;
+    let at = choice(alloc, &p, rank)?;
+    Ok(p.meets(at.as_slice()))
+}
+
+/// Two needs at two pins: their positions are the digits of a rank to the base 2.
 #[test]
 fn two_signals_on_one_pin_do_not_fit(rt: HostRuntime) -> Result<(), Fail> {
-    let alloc = rt.alloc();
-    let Ok(p) = problem(alloc, 2, Part::PinsOnly) else {
-        return Err(Fail::from("it is not built"));
-    };
-    let same = choice(alloc, &p, 0)?;
-    assert!(rt; !p.meets(same.as_slice()));
-    let apart = choice(alloc, &p, 6)?;
-    assert!(rt; p.meets(apart.as_slice()));
-    assert_eq!(rt; p.use_of(apart.as_slice(), 1), row(2));
+    let same = fits(&rt, rt.alloc(), 2, Part::PinsOnly, 0)?;
+    let apart = fits(&rt, rt.alloc(), 2, Part::PinsOnly, 1)?;
+    assert!(rt; !same && apart);
+    Ok(())
+}
+
+/// The use of the second of two needs in the choice of a rank.
+fn second_use(rt: &impl Abort, alloc: Global, rank: u64) -> Result<PinUse, Fail> {
+    let p = problem(rt, alloc, 2, Part::PinsOnly)?;
+    let at = choice(alloc, &p, rank)?;
+    Ok(p.use_of(at.as_slice(), 1))
+}
+
+#[test]
+fn the_second_signal_is_at_the_second_pin(rt: HostRuntime) -> Result<(), Fail> {
+    let found = second_use(&rt, rt.alloc(), 1)?;
+    assert!(rt; found == row(1));
     Ok(())
 }
 
 /// All homes, which cost nothing, and the choice whose PCLK1 is SYSCLK, at a cost of 1 and index 1 of 12.
 #[test]
 fn pclk1_above_its_limit_does_not_fit(rt: HostRuntime) -> Result<(), Fail> {
-    let alloc = rt.alloc();
-    let Ok(p) = problem(alloc, 0, Part::Whole) else {
-        return Err(Fail::from("it is not built"));
-    };
-    let home = choice(alloc, &p, 0)?;
-    assert!(rt; p.meets(home.as_slice()));
-    let fast = choice(alloc, &p, 13)?;
-    assert!(rt; !p.meets(fast.as_slice()));
-    let clocks = p.clock_of(fast.as_slice());
-    assert_eq!(rt; (clocks.src, clocks.n, clocks.ppre1), (Src::Pll, 168, 1));
+    let home = fits(&rt, rt.alloc(), 0, Part::Whole, 0)?;
+    let fast = fits(&rt, rt.alloc(), 0, Part::Whole, 13)?;
+    assert!(rt; home && !fast);
+    Ok(())
+}
+
+/// The clocks of the choice of a rank.
+fn clocks(rt: &impl Abort, alloc: Global, rank: u64) -> Result<ClockChoice, Fail> {
+    let p = problem(rt, alloc, 0, Part::Whole)?;
+    let at = choice(alloc, &p, rank)?;
+    Ok(p.clock_of(at.as_slice()))
+}
+
+#[test]
+fn the_clocks_of_a_choice_are_its_values(rt: HostRuntime) -> Result<(), Fail> {
+    let found = clocks(&rt, rt.alloc(), 13)?;
+    let sources = found.src == Src::Pll && found.psrc == Src::Hsi;
+    assert!(rt; sources && found.n == 168 && found.ppre1 == 1);
     Ok(())
 }

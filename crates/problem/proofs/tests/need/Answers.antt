@@ -3,4 +3,4 @@ use Rattle.problem.proofs.SmallLemmas.{needed}
 use Rattle.problem.proofs.tests.need.Goals as goal
 
 pub returns : goal.returns
-returns c = needed _ c.in_ok-copy.ensures refl refl
+returns g c = needed _ c.text.ensures refl refl

@@ -5,7 +5,7 @@ use Rattle.problem.specs.Small.{small}
 use Rattle.problem.proofs.tests.needs.Given as goal
 
 abbrev pub invariant-loop : goal.invariant-loop
-invariant-loop l = record {
+invariant-loop g l = record {
   many : length l.found.items ≡ l.counter;
   placed : Each (IsPlaced small) l.found.items;
 }

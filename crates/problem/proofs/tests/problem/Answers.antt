@@ -6,8 +6,8 @@ use Rattle.problem.proofs.tests.problem.Goals as goal
 
 pub returns-clause-many : goal.returns-clause-many
 unfolding problem_of
-returns-clause-many c = IfOk-weaker c.build.result _ _ (λ q e. ap (λ (q : ProblemParts). length q.signals) e ∙ c.in-Ok-needs.ensures.many) c.build.ensures.problem
+returns-clause-many g c = IfOk-weaker c.build.result _ _ (λ q e. ap (λ (q : ProblemParts). length q.signals) e ∙ c.needs.ensures.many) c.build.ensures.problem
 
 pub returns-clause-first : goal.returns-clause-first
 unfolding problem_of
-returns-clause-first c = IfOk-weaker c.build.result _ _ (λ q e. ap (λ (q : ProblemParts). q.first) e) c.build.ensures.problem
+returns-clause-first g c = IfOk-weaker c.build.result _ _ (λ q e. ap (λ (q : ProblemParts). q.first) e) c.build.ensures.problem

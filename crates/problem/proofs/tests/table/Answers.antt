@@ -4,4 +4,4 @@ use Rattle.problem.proofs.SmallLemmas.{valid}
 use Rattle.problem.proofs.tests.table.Goals as goal
 
 pub of-requires : goal.of-requires
-of-requires c = subst IsValid (sym c.in_ok-parts.ensures) valid
+of-requires g c = subst IsValid (sym c.parts.ensures) valid
