@@ -23,7 +23,7 @@ pub struct Ran {
 }
 
 fn tables(alloc: Global) -> Result<Tables, TableFault> {
-    read_tables(alloc, table())
+    read_tables(alloc, table().as_bytes())
 }
 
 /// The machine after reset, with the target of a setting.

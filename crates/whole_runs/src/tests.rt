@@ -94,9 +94,8 @@ fn mode(m: &Machine, place: u8) -> Mode
     m.mode_of(place)
 }
 
-/// SWS of RCC_CFGR.
-fn source(m: &Machine) -> u32 {
-    m.word(Reg::Cfgr) / 4 % 4
+fn configured(m: &Machine) -> u32 {
+    m.word(Reg::Cfgr)
 }
 
 /// Whether a node of the PLL is so many hertz.
@@ -133,7 +132,7 @@ fn a_crystal_that_never_starts_ends_the_run(rt: HostRuntime) -> Result<(), Fail>
         },
         "HSEON, and the last poll"
     );
-    assert_eq!(rt; source(&m), 0, "HSI");
+    assert_eq!(rt; configured(&m), 0, "SWS says HSI");
     assert_eq!(rt; nodes(&m).sysclk.floor(), 16_000_000);
     Ok(())
 }
@@ -152,7 +151,7 @@ fn the_board_comes_to_168_mhz(rt: HostRuntime) -> Result<(), Fail> {
         },
         "each flag at the first poll"
     );
-    assert_eq!(rt; source(&m), 2, "the PLL");
+    assert_eq!(rt; configured(&m), 0x0000_940A, "SWS says the PLL");
     let n = nodes(&m);
     assert_eq!(rt; n.sysclk.floor(), 168_000_000);
     assert_eq!(rt; n.hclk.floor(), 168_000_000);
