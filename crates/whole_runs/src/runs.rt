@@ -9,8 +9,8 @@ use init_gen::{Setting, generate, target};
 use mcu_tables::read_tables;
 use reg_machine::{Answer, Machine, Op, Stepped};
 use reg_map::Reg;
-use res_base::OutOfMemory;
-use res_model::{TableFault, Tables};
+use res_base::{OutOfMemory, Ratio};
+use res_model::{Mode, Nodes, TableFault, Tables};
 use std::alloc::Global;
 use std::test::Fail;
 
@@ -22,12 +22,24 @@ pub struct Ran {
     pub legal: bool,
 }
 
+/// What is seen of the machine behind a run: RCC_CFGR, the nodes in hertz and the modes of some pins. Tests hold this and no
+/// machine, since each of their early returns would have to drop it.
+#[derive(Clone, Copy, Debug, PartialEq, Eq)]
+pub struct Seen {
+    pub ran: Ran,
+    pub cfgr: u32,
+    /// SYSCLK, HCLK, PCLK1, PCLK2 and the timers of the two buses; then the PLL's input, its VCO and the 48 MHz clock, 0
+    /// where the PLL is off.
+    pub hertz: [u64; 9],
+    pub modes: [Mode; 4],
+}
+
 fn tables(alloc: Global) -> Result<Tables, TableFault> {
     read_tables(alloc, table().as_bytes())
 }
 
 /// The machine after reset, with the target of a setting.
-pub fn machine(alloc: Global, s: &Setting) -> Result<Machine, Fail> {
+fn machine(alloc: Global, s: &Setting) -> Result<Machine, Fail> {
     let tables = tables(alloc)?;
     let want = target(s);
     if want.facts.hse_hz < 0x1_0000_0000 {
@@ -83,7 +95,7 @@ fn stepped(m: &mut Machine, op: &Op, a: Answer) -> Stepped {
     }
 }
 
-pub fn is_legal(m: &Machine) -> bool {
+fn is_legal(m: &Machine) -> bool {
     m.legal()
 }
 
@@ -117,7 +129,7 @@ fn and_then(before: Ran, next: Ran) -> Ran {
 }
 
 /// The accesses one after the other, up to the first that does not go on, with the same answer at each step.
-pub fn run(m: &mut Machine, ops: &[Op], a: Answer) -> Ran {
+fn run(m: &mut Machine, ops: &[Op], a: Answer) -> Ran {
     let mut ran = Ran {
         last: Stepped::Went,
         steps: 0,
@@ -129,4 +141,73 @@ pub fn run(m: &mut Machine, ops: &[Op], a: Answer) -> Ran {
         }
     }
     ran
+}
+
+fn hertz(node: Option<Ratio>) -> u64 {
+    match node {
+        Some(node) => node.floor(),
+        None => 0,
+    }
+}
+
+fn nodes(m: &Machine) -> Nodes {
+    m.nodes_of()
+}
+
+fn frequencies(m: &Machine) -> [u64; 9] {
+    let n = nodes(m);
+    [
+        n.sysclk.floor(),
+        n.hclk.floor(),
+        n.pclk1.floor(),
+        n.pclk2.floor(),
+        n.tim1.floor(),
+        n.tim2.floor(),
+        hertz(n.vco_in),
+        hertz(n.vco),
+        hertz(n.clk48),
+    ]
+}
+
+fn mode(m: &Machine, place: u8) -> Mode {
+    if place < 144 {
+        m.mode_of(place)
+    } else {
+        Mode::Osc
+    }
+}
+
+fn configured(m: &Machine) -> u32 {
+    m.word(Reg::Cfgr)
+}
+
+fn look(m: &Machine, ran: Ran, places: [u8; 4]) -> Seen {
+    let [a, b, c, d] = places;
+    Seen {
+        ran,
+        cfgr: configured(m),
+        hertz: frequencies(m),
+        modes: [mode(m, a), mode(m, b), mode(m, c), mode(m, d)],
+    }
+}
+
+/// What is seen behind these accesses from reset, with the target of a setting.
+pub fn after(
+    alloc: Global,
+    s: &Setting,
+    ops: &[Op],
+    a: Answer,
+    places: [u8; 4],
+) -> Result<Seen, Fail> {
+    let mut m = machine(alloc, s)?;
+    let ran = run(&mut m, ops, a);
+    Ok(look(&m, ran, places))
+}
+
+/// What is seen behind the accesses that the setting gets.
+pub fn set_up(alloc: Global, s: &Setting, a: Answer, places: [u8; 4]) -> Result<Seen, Fail>
+    requires { IsSettable s.now }
+{
+    let ops = accesses(alloc, s)?;
+    after(alloc, s, ops.as_slice(), a, places)
 }

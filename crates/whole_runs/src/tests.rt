@@ -1,12 +1,11 @@
 //! Expected values are read off RM0090 and the data sheet, or worked out by hand.
 ghost use Rattle.std.specs.Prelude.{◌<◌};
 
-use crate::runs::{Ran, accesses, is_legal, machine, run};
+use crate::runs::{Ran, accesses, after, set_up};
 use crate::settings::{board, clock_pin};
-use reg_machine::{Answer, Machine, Op, Stepped, Timeout};
+use reg_machine::{Answer, Op, Stepped, Timeout};
 use reg_map::{GpioReg, Reg};
-use res_base::Ratio;
-use res_model::{Mode, Nodes};
+use res_model::Mode;
 use std::alloc::Global;
 use std::test::Fail;
 
@@ -84,28 +83,6 @@ fn clock_pin_accesses() -> [Op; 10] {
     ]
 }
 
-fn nodes(m: &Machine) -> Nodes {
-    m.nodes_of()
-}
-
-fn mode(m: &Machine, place: u8) -> Mode
-    requires { place < 144 }
-{
-    m.mode_of(place)
-}
-
-fn configured(m: &Machine) -> u32 {
-    m.word(Reg::Cfgr)
-}
-
-/// Whether a node of the PLL is so many hertz.
-fn is_hertz(node: Option<Ratio>, hertz: u64) -> bool {
-    match node {
-        Some(node) => node.floor() == hertz,
-        None => false,
-    }
-}
-
 #[test]
 fn the_board_has_its_accesses(rt: HostRuntime) -> Result<(), Fail> {
     let ops = accesses(rt.alloc(), &board())?;
@@ -118,62 +95,57 @@ fn the_board_has_its_accesses(rt: HostRuntime) -> Result<(), Fail> {
     Ok(())
 }
 
+/// USB_DM, SWCLK, PD15 and OSC_IN.
+const PLACES: [u8; 4] = [11, 14, 63, 112];
+
 #[test]
 fn a_crystal_that_never_starts_ends_the_run(rt: HostRuntime) -> Result<(), Fail> {
-    let ops = accesses(rt.alloc(), &board())?;
-    let mut m = machine(rt.alloc(), &board())?;
-    let ran = run(&mut m, ops.as_slice(), Answer { hse: false, ..YES });
+    let none = Answer { hse: false, ..YES };
+    let seen = set_up(rt.alloc(), &board(), none, PLACES)?;
+    let last = Stepped::TimedOut { name: Timeout::Hse };
+    // HSEON, and the last poll
     assert_eq!(rt;
-        ran,
+        seen.ran,
         Ran {
-            last: Stepped::TimedOut { name: Timeout::Hse },
+            last,
             steps: 1 + 100_000,
-            legal: true,
-        },
-        "HSEON, and the last poll"
+            legal: true
+        }
     );
-    assert_eq!(rt; configured(&m), 0, "SWS says HSI");
-    assert_eq!(rt; nodes(&m).sysclk.floor(), 16_000_000);
+    assert_eq!(rt; seen.cfgr, 0, "SWS says HSI");
+    assert_eq!(rt; seen.hertz[0], 16_000_000);
     Ok(())
 }
 
 #[test]
 fn the_board_comes_to_168_mhz(rt: HostRuntime) -> Result<(), Fail> {
-    let ops = accesses(rt.alloc(), &board())?;
-    let mut m = machine(rt.alloc(), &board())?;
-    let ran = run(&mut m, ops.as_slice(), YES);
+    let seen = set_up(rt.alloc(), &board(), YES, PLACES)?;
+    let last = Stepped::Went;
+    // each flag at the first poll
     assert_eq!(rt;
-        ran,
+        seen.ran,
         Ran {
-            last: Stepped::Went,
+            last,
             steps: 38,
-            legal: true,
-        },
-        "each flag at the first poll"
+            legal: true
+        }
     );
-    assert_eq!(rt; configured(&m), 0x0000_940A, "SWS says the PLL");
-    let n = nodes(&m);
-    assert_eq!(rt; n.sysclk.floor(), 168_000_000);
-    assert_eq!(rt; n.hclk.floor(), 168_000_000);
-    assert_eq!(rt; n.pclk1.floor(), 42_000_000);
-    assert_eq!(rt; n.pclk2.floor(), 84_000_000);
-    assert_eq!(rt; n.tim1.floor(), 84_000_000);
-    assert_eq!(rt; n.tim2.floor(), 168_000_000);
-    assert!(rt; is_hertz(n.vco_in, 1_000_000));
-    assert!(rt; is_hertz(n.vco, 336_000_000));
-    assert!(rt; is_hertz(n.clk48, 48_000_000));
-    Ok(())
-}
-
-#[test]
-fn the_pins_of_the_board_have_their_modes(rt: HostRuntime) -> Result<(), Fail> {
-    let ops = accesses(rt.alloc(), &board())?;
-    let mut m = machine(rt.alloc(), &board())?;
-    let _ = run(&mut m, ops.as_slice(), YES);
-    assert_eq!(rt; mode(&m, 11), Mode::Alt(10), "USB_DM");
-    assert_eq!(rt; mode(&m, 14), Mode::Alt(0), "SWCLK");
-    assert_eq!(rt; mode(&m, 63), Mode::Output, "PD15");
-    assert_eq!(rt; mode(&m, 112), Mode::Input, "OSC_IN, as at reset");
+    assert_eq!(rt; seen.cfgr, 0x0000_940A, "SWS says the PLL");
+    let buses = [
+        168_000_000,
+        168_000_000,
+        42_000_000,
+        84_000_000,
+        84_000_000,
+        168_000_000,
+    ];
+    assert_eq!(rt; &seen.hertz[..6], buses.as_slice());
+    assert_eq!(rt;
+        &seen.hertz[6..],
+        [1_000_000, 336_000_000, 48_000_000].as_slice()
+    );
+    let modes = [Mode::Alt(10), Mode::Alt(0), Mode::Output, Mode::Input];
+    assert_eq!(rt; seen.modes, modes, "OSC_IN is as at reset");
     Ok(())
 }
 
@@ -181,25 +153,25 @@ fn the_pins_of_the_board_have_their_modes(rt: HostRuntime) -> Result<(), Fail> {
 fn pb3_goes_from_af0_to_af5(rt: HostRuntime) -> Result<(), Fail> {
     let ops = accesses(rt.alloc(), &clock_pin())?;
     assert_eq!(rt; ops.as_slice(), clock_pin_accesses().as_slice());
-    let mut m = machine(rt.alloc(), &clock_pin())?;
-    assert_eq!(rt; mode(&m, 19), Mode::Alt(0), "JTDO");
-    let ran = run(&mut m, ops.as_slice(), YES);
+    let before = after(rt.alloc(), &clock_pin(), [].as_slice(), YES, [19; 4])?;
+    assert_eq!(rt; before.modes[0], Mode::Alt(0), "JTDO");
+    let seen = set_up(rt.alloc(), &clock_pin(), YES, [19; 4])?;
+    let last = Stepped::Went;
     assert_eq!(rt;
-        ran,
+        seen.ran,
         Ran {
-            last: Stepped::Went,
+            last,
             steps: 10,
-            legal: true,
+            legal: true
         }
     );
-    assert_eq!(rt; mode(&m, 19), Mode::Alt(5), "SPI1_SCK");
+    assert_eq!(rt; seen.modes[0], Mode::Alt(5), "SPI1_SCK");
     Ok(())
 }
 
 /// The last answer to accesses from reset, with the board's target, where no flag ever comes.
 fn last(alloc: Global, ops: &[Op]) -> Result<Stepped, Fail> {
-    let mut m = machine(alloc, &board())?;
-    Ok(run(&mut m, ops, NO).last)
+    Ok(after(alloc, &board(), ops, NO, PLACES)?.ran.last)
 }
 
 #[test]
