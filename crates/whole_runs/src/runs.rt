@@ -16,7 +16,7 @@ use std::test::Fail;
 
 /// How a run went: what the last step answered, how many steps it took, and whether each state was legal.
 #[derive(Clone, Copy, Debug, PartialEq, Eq)]
-pub struct Ran {
+pub(crate) struct Ran {
     pub last: Stepped,
     pub steps: u32,
     pub legal: bool,
@@ -25,7 +25,7 @@ pub struct Ran {
 /// What is seen of the machine behind a run: RCC_CFGR, the nodes in hertz and the modes of some pins. Tests hold this and no
 /// machine, since each of their early returns would have to drop it.
 #[derive(Clone, Copy, Debug, PartialEq, Eq)]
-pub struct Seen {
+pub(crate) struct Seen {
     pub ran: Ran,
     pub cfgr: u32,
     /// SYSCLK, HCLK, PCLK1, PCLK2 and the timers of the two buses; then the PLL's input, its VCO and the 48 MHz clock, 0
@@ -50,7 +50,7 @@ fn machine(alloc: Global, s: &Setting) -> Result<Machine, Fail> {
 }
 
 /// The accesses that a setting gets.
-pub fn accesses(alloc: Global, s: &Setting) -> Result<Vec<Op>, OutOfMemory>
+pub(crate) fn accesses(alloc: Global, s: &Setting) -> Result<Vec<Op>, OutOfMemory>
     requires { IsSettable s.now }
 {
     generate(alloc, s)
@@ -192,7 +192,7 @@ fn look(m: &Machine, ran: Ran, places: [u8; 4]) -> Seen {
 }
 
 /// What is seen behind these accesses from reset, with the target of a setting.
-pub fn after(
+pub(crate) fn after(
     alloc: Global,
     s: &Setting,
     ops: &[Op],
@@ -205,7 +205,7 @@ pub fn after(
 }
 
 /// What is seen behind the accesses that the setting gets.
-pub fn set_up(alloc: Global, s: &Setting, a: Answer, places: [u8; 4]) -> Result<Seen, Fail>
+pub(crate) fn set_up(alloc: Global, s: &Setting, a: Answer, places: [u8; 4]) -> Result<Seen, Fail>
     requires { IsSettable s.now }
 {
     let ops = accesses(alloc, s)?;

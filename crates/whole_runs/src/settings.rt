@@ -7,7 +7,7 @@ use init_gen::{Setting, Setup};
 use res_model::{ClockChoice, Facts, Mode, Pull, Speed, Src};
 
 /// A table with the limits of the STM32F407 at 2.7 V and above.
-pub fn table() -> &'static str {
+pub(crate) fn table() -> &'static str {
     r#"{"version":1,"names":["STM32F407V(E-G)Tx"],"package":"LQFP100","pins":["PB3","PH0-OSC_IN"],"signals":[{"name":"SPI1_SCK","use":"alt","at":[["PB3",5]]},{"name":"RCC_OSC_IN","use":"osc","at":["PH0-OSC_IN"]}],"hse_in":"RCC_OSC_IN","hse_out":"RCC_OSC_OUT","ips":[],"clock":{"m":[2,63],"n":[50,432],"p":[2,4,6,8],"q":[2,15],"hpre":[1,2],"ppre1":[1,2,4],"ppre2":[1,2],"vos":[1,2]},"limits":{"crystal":[4000000,26000000],"bypass":[1000000,50000000],"vco_in":[1000000,2000000],"vco":[100000000,432000000],"sysclk":168000000,"pclk1":42000000,"pclk2":84000000},"scales":[{"vos":1,"max":168000000},{"vos":2,"max":144000000}],"flash":[{"from":2700,"to":3600,"prefetch":true,"rows":[30000000,60000000,90000000,120000000,150000000,168000000]}],"defaults":{"src":"HSI","psrc":"HSE","hpre":1,"p":2,"m":16,"n":192,"q":4,"ppre1":1,"ppre2":1,"vos":1,"hse":8000000}}"#
 }
 
@@ -122,7 +122,7 @@ fn board_pins() -> [Option<Setup>; 144]
 }
 
 /// A board with a crystal, USB, a debugger and four lamps, at 168 MHz.
-pub fn board() -> Setting
+pub(crate) fn board() -> Setting
     ensures { IsSettable result }
 {
     Setting {
@@ -135,7 +135,7 @@ pub fn board() -> Setting
 }
 
 /// PB3 as SPI1_SCK, and no other pin.
-pub fn clock_pin() -> Setting
+pub(crate) fn clock_pin() -> Setting
     ensures { IsSettable result }
 {
     Setting {
