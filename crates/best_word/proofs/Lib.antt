@@ -1,0 +1,4 @@
+mod MemberLemmas
+mod Moves
+mod PartLemmas
+mod SumLemmas
