@@ -1,4 +1,2 @@
-mod MemberLemmas
 mod Moves
 mod PartLemmas
-mod SumLemmas

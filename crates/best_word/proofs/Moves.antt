@@ -9,7 +9,7 @@ use Rattle.atomic_table.specs.Table.{State, Me, Step, step, keeps, Allows, Split
 use Rattle.atomic_table.proofs.Lists.{at_set, set_else, at_longer}
 use Rattle.best_word.specs.declared.part.Part.TheVariants.{First, Other, Spent}
 use Rattle.res_base.specs.Lists.{Member}
-use Rattle.best_word.proofs.MemberLemmas.{member_left, member_right, member_split, member_last, member_one}
+use Rattle.res_base.proofs.ListLemmas.{member_left, member_right, member_split, member_last, member_one}
 use Rattle.best_word.proofs.PartLemmas.{each_set, each_snoc, keeps as parts_keep, splits as parts_split, joins as parts_join, alone as parts_alone}
 use Rattle.best_word.specs.declared.word.View.{View}
 use Rattle.best_word.specs.Word.{newcomer, one_more_out, together, saw_more, blank_more, kept_more, KeptBy, Least, Holds, SeesRank, SeesNone, Loaded, Offered}

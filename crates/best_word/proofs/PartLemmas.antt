@@ -7,7 +7,7 @@ use Rattle.best_word.specs.declared.part.Part.{Part}
 use Rattle.best_word.specs.declared.part.Part.TheVariants.{First, Other, Spent}
 use Rattle.best_word.specs.Parts.{others, OneFirst}
 use Rattle.res_base.specs.Lists.{total}
-use Rattle.best_word.proofs.SumLemmas.{total_set, total_snoc, total_only, total_most, zero_each}
+use Rattle.res_base.proofs.ListLemmas.{total_set, total_snoc, total_only, total_most, zero_each}
 
 -- a fact of each view but one, and of the new one there, is a fact of each
 pub each_set : {V : Type 0} (F : ℕ → V → Type 0) (views : List V) (port : ℕ) (w : V) → F port w → ((j : ℕ) (u : V) → j ≢ port → get_elem? views j ≡ some u → F j u) → (j : ℕ) (u : V) → get_elem? (set views port w) j ≡ some u → F j u
