@@ -30,7 +30,7 @@
     });
     all(svg, ".pill").forEach(pill => boxed("pill", pill.querySelector("text"), pill.querySelector("rect")));
     all(svg, ".pin .cell").forEach(cell => boxed("cell", cell, cell.parentNode.querySelector(".pad")));
-    apart(all(svg, ".pin .label, .pill text, .arrow-name, .part, .sub"));
+    apart(all(svg, ".pin .label, .need-name, .pill text, .arrow-name, .part, .sub"));
   });
 
   const wide = document.documentElement.scrollWidth;

@@ -46,7 +46,8 @@ def run(path, words):
         done = subprocess.run([path, *words], capture_output=True)
     except OSError as fault:
         raise Refused(f"toarnyk: {path}: {fault.strerror}\n", NO_PROGRAM)
-    return done.returncode, done.stdout.decode("utf-8", "replace")
+    status = done.returncode if done.returncode >= 0 else 128 - done.returncode
+    return status, done.stdout.decode("utf-8", "replace")
 
 
 def options_of(words):
@@ -137,6 +138,22 @@ def note_of(status):
             "open for the whole answer: --free pins, or lock what is settled.")
 
 
+def tell(refused, words):
+    """The program's line on standard error, and what the front has to say to it, unless it is to say nothing."""
+    sys.stderr.write("".join(letter if letter.isprintable() or letter == "\n" else "\ufffd" for letter in refused.text))
+    if os.environ.get("TOARNYK_HINTS") == "no":
+        return
+    try:
+        import blocks
+        import hints
+        block = hints.block_for(refused.status, ["resolve", *words], refused.text)
+    except Exception:
+        # a message that can't be made is left out
+        return
+    if block:
+        blocks.tell(block)
+
+
 def main(argv):
     """The status of the call whose words behind `view` these are."""
     if sys.stdout.isatty():
@@ -152,7 +169,7 @@ def main(argv):
         sys.stdout.flush()
         return status
     except Refused as refused:
-        sys.stderr.write("".join(letter if letter.isprintable() or letter == "\n" else "\ufffd" for letter in refused.text))
+        tell(refused, argv)
         return refused.status
     except Unreadable as fault:
         print(f"toarnyk view: the program's text is not as expected: {fault}", file=sys.stderr)

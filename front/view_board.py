@@ -40,10 +40,16 @@ class Wanted:
     pins: tuple
     need: bool
     locked: bool
+    label: str = ""
 
     @property
     def title(self):
         return "a held pin" if self.signal == "-" else self.signal
+
+    @property
+    def named(self):
+        """With its label, which tells signals of one name apart."""
+        return f"{self.title} “{self.label}”" if self.label else self.title
 
 
 @dataclass(frozen=True)
@@ -119,7 +125,7 @@ def variables_of(project, needs, table):
     found = []
     for own in project.pins:
         pins = values_of(own.signal, own.name, own.locked, table)
-        found.append(Wanted(own.signal, pins, False, own.locked))
+        found.append(Wanted(own.signal, pins, False, own.locked, own.label))
     return found + [Wanted(need, values_of(need, None, False, table), True, False) for need in needs]
 
 
@@ -144,7 +150,7 @@ def hall_sets(nodes, project, needs, table):
         if not all(0 <= index < len(variables) for index in indices):
             continue
         wanted = tuple(
-            Wanted(v.signal, within(v, index + SIGNALS_FROM, node.path), v.need, v.locked)
+            Wanted(v.signal, within(v, index + SIGNALS_FROM, node.path), v.need, v.locked, v.label)
             for index, v in ((index, variables[index]) for index in indices))
         found.append(HallSet(wanted, node.words[0] == "exti", node.path))
     return found

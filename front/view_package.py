@@ -160,10 +160,15 @@ def pin_group(spot, scene, frame):
     ]
     if mark_of(kind, frame.wide):
         inside.append(text_at(spot.sign * frame.pad / 2, 3.2, mark_of(kind, True), class_="mark", text_anchor="middle"))
+    inner = "end" if spot.sign > 0 else "start"
     if frame.wide:
-        inside.append(text_at(-spot.sign * 5, 3, spot.number, class_="number",
-                              text_anchor="end" if spot.sign > 0 else "start"))
+        inside.append(text_at(-spot.sign * 5, 3, spot.number, class_="number", text_anchor=inner))
         inside.append(label_text(parts, spot.sign, spot.sign * (frame.pad + 6), frame.font))
+    elif kind == "need" and all(place.home != spot.name for place in scene.places):
+        # where an arrow begins there is no room for a name
+        inside.append(text_at(-spot.sign * 6, 3, cut(here[0].title, 18), class_="need-name", text_anchor=inner, font_size=9))
+    elif spot.number % (scene.pins_of_package // 4) == 1:
+        inside.append(text_at(-spot.sign * 4, 3, spot.number, class_="number", text_anchor=inner))
     return pin_element(spot, scene, here, kind, "".join(inside))
 
 
@@ -229,12 +234,12 @@ def pills(scene, frame):
     rows = math.ceil(len(wanted) / columns)
     gap = min(18 if frame.wide else 10, (frame.body * 0.6 - rows * height) / rows)
     most = int(frame.body * 0.45 / columns / width_of(1, font))
-    width = width_of(max(min(len(w.title), most) for w in wanted), font) + 20
+    width = width_of(max(min(len(w.named), most) for w in wanted), font) + 20
     for index, w in enumerate(wanted):
         column, row = divmod(index, rows)
         x = frame.middle[0] + (column - (columns - 1) / 2) * (width + 60)
         y = frame.middle[1] + 20 + (row - (rows - 1) / 2) * (height + gap)
-        yield w, x, y, width, height, cut(w.title, most), font
+        yield w, x, y, width, height, cut(w.named, most), font
 
 
 def hall_lines(scene, frame, spots):

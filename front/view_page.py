@@ -109,7 +109,7 @@ def listed(names):
 
 
 def reason_of(hall):
-    pins, signals = hall.pins(), [wanted.title for wanted in hall.wanted]
+    pins, signals = hall.pins(), [wanted.named for wanted in hall.wanted]
     if hall.lines:
         lines = {re.match(r"P[A-Z](\d+)", pin)[1] for pin in pins}
         return (f"{counted(len(signals), 'interrupt')} want {counted(len(lines), 'line')}: the pins {listed(pins)} have the "
@@ -175,7 +175,7 @@ def hall_table(view):
     for wanted in view.hall.wanted:
         pins = "; ".join(f"{where(view.table, pin)}" for pin in wanted.pins)
         why = "a need" if wanted.need else "locked at its pin" if wanted.locked else "in the project"
-        rows.append(element("tr", element("th", esc(wanted.title), scope="row"), element("td", esc(pins), data_head="Can be at"),
+        rows.append(element("tr", element("th", esc(wanted.named), scope="row"), element("td", esc(pins), data_head="Can be at"),
                             element("td", esc(why), data_head="Why it counts")))
     heads = "".join(element("th", h, scope="col") for h in ("Signal", "Can be at", "Why it counts"))
     pins = ", ".join(where(view.table, pin) for pin in view.hall.pins())

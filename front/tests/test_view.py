@@ -176,7 +176,7 @@ class Pages(unittest.TestCase):
             (at / "program").write_text("\n".join(lines + ["esac", "echo 'usage: word 1'; exit 2", ""]))
             (at / "program").chmod(0o755)
             done = subprocess.run([sys.executable, VIEW, at / "table.json", at / "board.ioc", *words], capture_output=True,
-                                  env={**os.environ, "TOARNYK_PROGRAM": str(at / "program")})
+                                  env={**os.environ, "TOARNYK_PROGRAM": str(at / "program"), "TOARNYK_HINTS": "no"})
             return done.returncode, done.stdout.decode(), done.stderr.decode()
 
     def shows(self, part, page, least=1):
@@ -205,7 +205,7 @@ class Pages(unittest.TestCase):
         status, page, _ = self.call(refuted)
         self.assertEqual(status, 1)
         self.shows("Nothing fits", page)
-        self.shows("2 signals want 3 pins: I2C1_SCL and a held pin have only PB6, PB8 and PB10 between them.", page)
+        self.shows("2 signals want 3 pins: I2C1_SCL “Audio =clock” and a held pin have only PB6, PB8 and PB10 between them.", page)
         self.shows("it breaks limit 10: a peripheral needs exactly 48 MHz", page)
         self.shows("C text</h2>", page, 0)
         status, page, _ = self.call({**refuted, "explain": ("because <so>\n", 0)})
