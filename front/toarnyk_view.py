@@ -76,7 +76,9 @@ def explanation(path, words):
 
 
 def closing_of(nodes):
-    return tuple((node.kind, node.words[0] if node.words else "") for node in nodes if node.kind not in "SW")
+    """What closes each case: `L` with the limit's number, `H` with `pins` or `exti`, or `R`."""
+    return tuple((node.kind, int(node.words[0]) if node.kind == "L" else node.words[0] if node.words else "")
+                 for node in nodes if node.kind not in "SW")
 
 
 def best_hall(halls):

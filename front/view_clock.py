@@ -2,7 +2,7 @@
 from dataclasses import dataclass
 
 from view_limits import NODE_OF_LIMIT, bounds_of
-from view_svg import cut, element, esc, hertz, rounded, text_at, width_of
+from view_svg import cut, element, hertz, rounded, table_of, text_at, width_of
 
 HSI = 16_000_000
 TITLES = {"HSI": "HSI", "HSE": "HSE", "VCO_IN": "VCO input", "VCO": "VCO", "SYSCLK": "SYSCLK", "HCLK": "HCLK",
@@ -244,11 +244,7 @@ def clock_table(cells):
     """The same values in words."""
     rows = []
     for cell in cells.values():
-        value = esc(cell.value) + (f" <span class='was'>was {esc(cell.was)}</span>" if cell.was else "")
+        value = cell.value + (f", was {cell.was}" if cell.was else "")
         near = "the limit is broken" if cell.near == "broken" else cell.near
-        rows.append(element("tr", element("th", esc(TITLES[cell.name]), scope="row"), element("td", value, data_head="Value"),
-                            element("td", esc(cell.made) or "–", data_head="Made from"),
-                            element("td", esc(cell.words) or "none", data_head="Limit"),
-                            element("td", esc(near) or "–", data_head="How near"), class_=cell.state))
-    heads = "".join(element("th", head, scope="col") for head in ("Node", "Value", "Made from", "Limit", "How near"))
-    return element("table", element("thead", element("tr", heads)), element("tbody", *rows), class_="cards")
+        rows.append(([TITLES[cell.name], value, cell.made, cell.words or "none", near], {"class_": cell.state}))
+    return table_of(("Node", "Value", "Made from", "Limit", "How near"), rows)

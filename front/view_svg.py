@@ -1,4 +1,4 @@
-"""Text and elements of HTML and SVG. Every text from inputs goes through `esc`, so that it can't end what it stands in."""
+"""Text and elements of HTML and SVG. Every text from inputs goes through `esc`: it can't end what it stands in."""
 import html
 import math
 
@@ -44,6 +44,17 @@ def attributes(named):
 def element(name, *inside, **named):
     """An element. What is inside must be escaped."""
     return f"<{name}{attributes(named)}>{''.join(inside)}</{name}>"
+
+
+def table_of(heads, rows):
+    """A table; each row has its cells as text, of which the first heads the row, and the attributes of the row."""
+    made = []
+    for (first, *cells), named in rows:
+        made.append(element("tr", element("th", esc(first), scope="row"), *[
+            element("td", esc(cell) or "–", data_head=head, class_=None if cell else "none")
+            for head, cell in zip(heads[1:], cells)], **named))
+    top = element("tr", *[element("th", head, scope="col") for head in heads])
+    return element("table", element("thead", top), element("tbody", *made))
 
 
 def width_of(letters, size):

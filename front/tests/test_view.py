@@ -215,7 +215,14 @@ class Pages(unittest.TestCase):
         status, page, _ = self.call({"resolve": ("proof 1\nbound none\nL 13\nend\n", 1), "tree": (cases.TREE, 0),
                                      "pins": (cases.PLACEMENT, 0)})
         self.assertEqual(status, 1)
-        self.shows("Limit 13, whatever is chosen", page)
+        self.shows("Limit 13, whatever is chosen: the supply or HCLK is outside the flash&#x27;s table.", page)
+
+    def test_interrupts_of_one_line(self):
+        project = "Mcu.Pin0=PB0\nPB0.Signal=GPXTI0\nMcu.Pin1=PH0-OSC_IN\nPH0-OSC_IN.Signal=GPXTI0\n"
+        status, page, _ = self.call({"resolve": ("proof 1\nbound none\nH exti 10 11\nend\n", 1), "tree": (cases.TREE, 0),
+                                     "pins": ("no choice\n", 1)}, project=project)
+        self.assertEqual(status, 1)
+        self.shows("2 interrupts want 1 interrupt line: the pins PB0 and PH0-OSC_IN have the number 0.", page)
 
     def test_ranks_that_are_too_wide(self):
         wide = {"resolve": ("too wide: variable 40\n", 7), "tree": (cases.TREE, 0), "pins": (cases.PLACEMENT, 0)}
