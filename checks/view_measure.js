@@ -37,7 +37,8 @@
   if (wide > innerWidth) faults.push("the page is " + wide + " pixels wide in a window of " + innerWidth);
   all(document, "h1, h2, p, li, dd, td, th, button, summary").filter(e => e.getClientRects().length).forEach(e => {
     const box = e.getBoundingClientRect();
-    if (e.closest("thead") && box.width <= 1) return;
+    // the heads of a table that stands as cards are there for screen readers alone
+    if (e.closest("thead") && e.closest("thead").getBoundingClientRect().width < 2) return;
     if (e.scrollWidth > e.clientWidth + 1 && e.clientWidth > 1 && getComputedStyle(e).display !== "inline") faults.push(said(e) + " is wider than its box");
     if (box.right > innerWidth + 1 || box.left < -1) faults.push(said(e) + " leaves the window");
   });

@@ -209,10 +209,14 @@ def arrow(start, end, middle, name, wide):
     pull = min(away * 0.6, math.dist(start, end) * 0.6 + (46 if wide else 26)) / away
     turn = (between[0] + (middle[0] - between[0]) * pull, between[1] + (middle[1] - between[1]) * pull)
     top = ((start[0] + 2 * turn[0] + end[0]) / 4, (start[1] + 2 * turn[1] + end[1]) / 4)
-    below = 13 if top[1] < middle[1] else -7
-    return element("path", class_="arrow", marker_end="url(#head)",
-                   d=f"M{start[0]:.1f} {start[1]:.1f}Q{turn[0]:.1f} {turn[1]:.1f} {end[0]:.1f} {end[1]:.1f}") + text_at(
-        top[0], top[1] + below, cut(name, 24), class_="arrow-name", text_anchor="middle", font_size=11 if wide else 9)
+    path = f"M{start[0]:.1f} {start[1]:.1f}Q{turn[0]:.1f} {turn[1]:.1f} {end[0]:.1f} {end[1]:.1f}"
+    # the name stands on the outer side of the bend
+    out = math.dist(between, turn) or 1
+    aside = ((turn[0] - between[0]) / out, (turn[1] - between[1]) / out)
+    anchor = "start" if aside[0] > 0.35 else "end" if aside[0] < -0.35 else "middle"
+    return element("path", class_="arrow", marker_end="url(#head)", d=path) + text_at(
+        top[0] + 8 * aside[0], top[1] + 12 * aside[1] + 4, cut(name, 24), class_="arrow-name", text_anchor=anchor,
+        font_size=12 if wide else 9)
 
 
 def arrows(scene, frame, spots):
@@ -227,11 +231,13 @@ def arrows(scene, frame, spots):
 
 
 def pills(scene, frame):
-    """The signals of the set in the middle of the body, each with its box."""
+    """The signals of the set in the middle of the body, each with its box; none where there is no room for them."""
     wanted = scene.hall.wanted
     columns = 1 if len(wanted) <= 14 or not frame.wide else 2
     font, height = (12, 24) if frame.wide else (9.5, 18)
     rows = math.ceil(len(wanted) / columns)
+    if rows * (height + 4) > frame.body * 0.6:
+        return
     gap = min(18 if frame.wide else 10, (frame.body * 0.6 - rows * height) / rows)
     most = int(frame.body * 0.45 / columns / width_of(1, font))
     width = width_of(max(min(len(w.named), most) for w in wanted), font) + 20
