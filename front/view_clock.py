@@ -233,7 +233,7 @@ def diagram(cells, clock, wide):
     nodes = [node(cell, at, has_old) for cell in cells.values()]
     return element("svg", *lines, *nodes, class_="wide" if wide else "narrow", role="img",
                    aria_label="The clock tree; the table below it has the same values",
-                   viewBox=f"0 0 {at.size[0]:.0f} {at.size[1]:.0f}", style=f"max-width:{at.size[0]:.0f}px")
+                   viewBox=f"0 0 {at.size[0]:.0f} {at.size[1]:.0f}", style=f"max-width:{at.size[0] if wide else 560:.0f}px")
 
 
 def clock_pictures(cells, clock):

@@ -330,7 +330,7 @@ def grid_svg(scene, wide):
 def drawing(pins, lines, size, wide, name):
     return element("svg", pins, element("g", class_="reach"), element("g", lines, class_="lines"),
                    class_="wide" if wide else "narrow", viewBox=f"0 0 {size[0]:.0f} {size[1]:.0f}", role="group",
-                   aria_label=name, style=f"max-width:{size[0]:.0f}px")
+                   aria_label=name, style=f"max-width:{size[0] if wide else 560:.0f}px")
 
 
 def package_svg(names, scene, wide):

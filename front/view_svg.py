@@ -47,14 +47,15 @@ def element(name, *inside, **named):
 
 
 def table_of(heads, rows):
-    """A table; each row has its cells as text, of which the first heads the row, and the attributes of the row."""
+    """A table; each row has its cells as text, of which the first heads the row, and the attributes of the row. The roles
+    are told, since narrow windows show the rows as blocks, and what is shown so loses them."""
     made = []
     for (first, *cells), named in rows:
-        made.append(element("tr", element("th", esc(first), scope="row"), *[
-            element("td", esc(cell) or "–", data_head=head, class_=None if cell else "none")
-            for head, cell in zip(heads[1:], cells)], **named))
-    top = element("tr", *[element("th", head, scope="col") for head in heads])
-    return element("table", element("thead", top), element("tbody", *made))
+        made.append(element("tr", element("th", esc(first), scope="row", role="rowheader"), *[
+            element("td", esc(cell) or "–", data_head=head, class_=None if cell else "none", role="cell")
+            for head, cell in zip(heads[1:], cells)], role="row", **named))
+    top = element("tr", *[element("th", head, scope="col", role="columnheader") for head in heads], role="row")
+    return element("table", element("thead", top, role="rowgroup"), element("tbody", *made, role="rowgroup"), role="table")
 
 
 def width_of(letters, size):
