@@ -1,4 +1,5 @@
 """The texts of the program, the board and the page that `toarnyk view` makes of them."""
+import collections
 import html
 import os
 import pathlib
@@ -19,6 +20,11 @@ from view_limits import bounds_of
 from view_svg import cut, esc, hertz, megahertz
 
 VIEW = cases.HERE.parent / "toarnyk_view.py"
+
+READERS = {
+    ("resolve", 0): read_report, ("pins", 0): read_placement,
+    ("resolve", 1): lambda text, pins: read_refutation(text), ("tree", 0): lambda text, pins: read_tree(text),
+}
 
 
 def small():
@@ -85,6 +91,24 @@ class Answers(unittest.TestCase):
             read_placement(cases.PLACEMENT.replace("pins 4", "pins 9"), pins)
         with self.assertRaises(Unreadable):
             read_refutation("proof 1\nbound none\nL 3\nL 4\nend\n")
+
+
+class WholeTexts(unittest.TestCase):
+    def test_every_text_of_the_checks_is_read(self):
+        sys.path.insert(0, str(cases.HERE.parent.parent / "checks"))
+        import runs
+        counts = collections.Counter()
+        with tempfile.TemporaryDirectory() as folder:
+            at = pathlib.Path(folder)
+            for words, lines, status in runs.all_runs(at):
+                command, text = words[0] if words else "", "\n".join(lines) + "\n"
+                if "..." in lines or (command, status) not in READERS:
+                    continue
+                pins = read_table((at / words[1]).read_bytes()).pins
+                with self.subTest(words=words):
+                    READERS[command, status](text, pins)
+                counts[command, status] += 1
+        self.assertEqual(set(counts), set(READERS))
 
 
 class Board(unittest.TestCase):
