@@ -1,0 +1,1 @@
+"""Tests of the front, by Python's unittest."""
