@@ -11,7 +11,7 @@ HOME = os.path.dirname(os.path.dirname(os.path.abspath(__file__)))
 # where each file of the checkout goes under PREFIX
 PLACES = (
     ("toarnyk", "bin"),
-    ("front/*.py", "lib/toarnyk/front"),
+    ("front/*.*", "lib/toarnyk/front"),
     ("tables/*.json", "share/toarnyk/tables"),
     ("tables/README.md", "share/toarnyk/tables"),
     ("examples/*", "share/toarnyk/examples"),

@@ -9,10 +9,12 @@ import codecs
 import pathlib
 import re
 import shutil
+import sys
 from typing import NamedTuple
 
 HERE = pathlib.Path(__file__).resolve().parent
 HOME = HERE.parent.parent
+sys.path.insert(0, str(HERE.parent))
 
 
 class Case(NamedTuple):

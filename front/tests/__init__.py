@@ -1,1 +1,0 @@
-"""Tests of the front, by Python's unittest."""
