@@ -42,13 +42,13 @@ def roff(text):
 
 def man_page():
     lines = [
-        '.TH TOARNYK 1 "" "toarnyk" "User Commands"',
+        '.TH TOARNYK 1 "2026-12-01" "toarnyk" "User Commands"',
         ".SH NAME",
         "toarnyk \\- a resolver for pins and clock tree of STM32F405 and STM32F407",
         ".SH SYNOPSIS",
     ]
-    for command in commands.COMMANDS.values():
-        lines += [f".B toarnyk {roff(commands.usage_line(command))}", ".br"]
+    usages = [f".B toarnyk {roff(commands.usage_line(command))}" for command in commands.COMMANDS.values()]
+    lines += "\n.br\n".join(usages).split("\n")
     lines += [
         ".SH DESCRIPTION",
         roff("TABLE is a part's table of alternate functions (JSON), PROJECT a project as STM32CubeMX writes it (.ioc). "
