@@ -97,6 +97,5 @@ def painter(is_colour):
 
 def tell(block, stream=None):
     stream = stream or sys.stderr
-    text = "".join(line + "\n" for line in lines_of(block, painter(is_colour_due(stream))))
-    stream.write(text.encode(stream.encoding or "utf-8", "backslashreplace").decode(stream.encoding or "utf-8"))
+    stream.write("".join(line + "\n" for line in lines_of(block, painter(is_colour_due(stream)))))
     stream.flush()

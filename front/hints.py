@@ -56,7 +56,7 @@ def block_for(status, words, said):
     """The block, or None where there is nothing to add."""
     line = (said or "").split("\n", 1)[0]
     if status == 2:
-        return words_fault.block(words, line)
+        return words_fault.block(words, line) or general(status)
     if status == 1:
         return faults.nothing_fits(words, said or "")
     told = {3: faults.unread, 4: faults.too_long, 5: faults.of_table, 6: faults.of_project, 7: faults.too_wide,
@@ -67,6 +67,8 @@ def block_for(status, words, said):
 
 def general(status):
     """A block from the status alone."""
+    if status > 128 and status not in FIXED:
+        return blocks.Block(f"the program was ended by signal {status - 128}", None, ("nothing can be said of the answer",))
     if status in FIXED:
         title, notes, helps = FIXED[status]
         return blocks.Block(title, None, notes, helps)

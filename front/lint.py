@@ -29,7 +29,7 @@ def main(argv):
         return NO_TABLE
     notes = [note for kind in KINDS if kind.name not in off for note in told(kind, project, table, needs)]
     for line, kind, text in sorted(notes):
-        sys.stdout.write(f"{blocks.harmless(project.file)}:{line}: {kind}: {text}\n")
+        sys.stdout.write(f"{blocks.harmless(project.file)}:{line}: {kind}: {blocks.harmless(text)}\n")
     return 1 if notes else 0
 
 

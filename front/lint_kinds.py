@@ -1,4 +1,7 @@
-"""The kinds of notes that `lint` tells. Each gives pairs of a line and a text; line 0 is the project as a whole."""
+"""The kinds of notes that `lint` tells. Each gives pairs of a line and a text; line 0 is the project as a whole.
+
+The texts have names as they stand in the inputs: who prints them makes them harmless.
+"""
 import re
 from typing import Callable, NamedTuple
 
@@ -24,8 +27,8 @@ def at_two_pins(project, table, needs):
         for function in sorted(functions_of(one.signal)):
             before = first.setdefault(function, one)
             if before is not one:
-                yield one.line, (f"{blocks.harmless(one.signal)} at {one.pin} is also at {before.pin} "
-                                 f"(line {before.line}, {blocks.harmless(before.signal)}): both are set up")
+                yield one.line, (f"{one.signal} at {one.pin} is also at {before.pin} "
+                                 f"(line {before.line}, {before.signal}): both are set up")
                 break
 
 
@@ -35,8 +38,8 @@ def needed_though_placed(project, table, needs):
     for name in needs:
         one = next((there[function] for function in sorted(functions_of(name)) if function in there), None)
         if one:
-            yield one.line, (f"`--need {blocks.harmless(name)}` asks for a second pin: "
-                             f"{blocks.harmless(one.signal)} is at {one.pin}")
+            yield one.line, (f"`--need {name}` asks for a second pin: "
+                             f"{one.signal} is at {one.pin}")
 
 
 def interrupt_number(project, table, needs):
@@ -53,7 +56,7 @@ def unlisted_pin(project, table, needs):
     for key, line in project.keys.items():
         pin, dot, last = key.rpartition(".")
         if dot and last == "Signal" and pin not in listed and table.same_pin(pin):
-            yield line.number, f"no `Mcu.Pin` line lists {pin}: {blocks.harmless(line.value)} is passed over"
+            yield line.number, f"no `Mcu.Pin` line lists {pin}: {line.value} is passed over"
 
 
 def no_row(project, table, needs):
@@ -62,7 +65,7 @@ def no_row(project, table, needs):
         rows = table.rows(one.signal)
         if rows and one.pin not in [pin for pin, _ in rows]:
             where = ", ".join(row_text(row) for row in rows)
-            yield one.line, f"{blocks.harmless(one.signal)} can't be at {one.pin}, and will be moved: it can be at {where}"
+            yield one.line, f"{one.signal} can't be at {one.pin}, and will be moved: it can be at {where}"
 
 
 def shared_block(project, table, needs):
@@ -152,7 +155,7 @@ def other_key(project, table, needs):
     for key, line in project.keys.items():
         pin, _, part = key.rpartition(".")
         if pin in signals and part.startswith("GPIO_") and part not in CARRIED:
-            yield line.number, f"{pin}: the C text does not carry out {blocks.harmless(part)}"
+            yield line.number, f"{pin}: the C text does not carry out {part}"
 
 
 def interrupt_edge(project, table, needs):

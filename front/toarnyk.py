@@ -51,6 +51,8 @@ def no_words():
 
 def run(argv):
     """`main`, where a message that can't be made is left out, and a reader that has gone is no fault of ours."""
+    for stream in (sys.stdout, sys.stderr):
+        stream.reconfigure(errors="backslashreplace")
     try:
         status = main(argv)
         sys.stdout.flush()

@@ -14,8 +14,10 @@ def block(words, line):
     found = PLACE.match(line)
     number = int(found[1]) if found else 0
     command = commands.COMMANDS.get(words[0])
-    if not command or not command.proved or number == 0:
+    if not command or not command.proved:
         return unknown_command(words)
+    if number == 0:
+        return None
     title, notes = complaint(command, words, number)
     helps = (f"usage: toarnyk {commands.usage_line(command)}", f"`toarnyk help {command.name}` tells each option")
     return blocks.Block(title, place(words, number), tuple(notes), helps)
