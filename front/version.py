@@ -26,7 +26,8 @@ def proved(program):
     except OSError:
         said = {}
     now = sum_of(program)
-    lines = [f"kit: {said.get('kit', 'not known')}", f"proved and built: {said.get('date', 'not known')}", f"program: {now}"]
+    lines = [f"kit: {said.get('kit', 'not known')}", f"proved and built: {said.get('date', 'not known')}",
+             f"sources: {said.get('sources', 'not known')}", f"program: {now}"]
     if said.get("program") not in (None, now):
         lines.append("warning: this is not the program that was proved then: its sum was " + said["program"])
     return lines
