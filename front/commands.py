@@ -52,7 +52,8 @@ OPTIONS = {
     )
 }
 
-LIMITED = ("--vdd", "--need", "--hclk", "--pclk1", "--pclk2", "--free")
+# the options that `resolve` and its kin share, told as OPTION in a usage
+SHARED = ("--vdd", "--need", "--hclk", "--pclk1", "--pclk2", "--free")
 
 COMMANDS = {
     command.name: command
@@ -70,13 +71,13 @@ COMMANDS = {
             "either way.",
             "tree examples/sample.json examples/too-fast.ioc", True),
         Command(
-            "resolve", ("TABLE", "PROJECT"), LIMITED + ("--workers", "--proof"),
+            "resolve", ("TABLE", "PROJECT"), SHARED + ("--workers", "--proof"),
             "pins and clocks that meet every limit with the fewest changes, and a C function that sets them up",
             "Searches pins and clock tree together. Prints the choice of least rank (fewest changes first) and a C "
             "function that sets it up from reset. Where nothing fits, prints a refutation with status 1.",
             "resolve tables/STM32F407VG.json examples/discovery-board.ioc", True),
         Command(
-            "check", ("TABLE", "PROJECT", "PROOF"), LIMITED,
+            "check", ("TABLE", "PROJECT", "PROOF"), SHARED,
             "whether a refutation, or the proof behind a report, holds",
             "Give it the words of the `resolve` that the proof is of, with the file of the proof after the project. It "
             "shares no search with `resolve`, so it answers for a proof whoever wrote it.",
@@ -88,7 +89,7 @@ COMMANDS = {
             "tells what the machine does, and the answer is proved to be the least one like any other.",
             "case 7", True),
         Command(
-            "code", ("TABLE", "PROJECT"), LIMITED + ("--workers", "-o"),
+            "code", ("TABLE", "PROJECT"), SHARED + ("--workers", "-o"),
             "the C text of `resolve` alone, and on success alone",
             "Where `resolve` refuses, nothing goes to standard output or into the file, its line goes to standard "
             "error, and the status is its own. With -o a header is written beside the file.",
@@ -99,7 +100,7 @@ COMMANDS = {
             "Prints notes, each with file and line. The status is 0 without notes and 1 with.",
             "lint tables/STM32F407VG.json examples/motor-board.ioc", False),
         Command(
-            "view", ("TABLE", "PROJECT"), LIMITED + ("--workers",),
+            "view", ("TABLE", "PROJECT"), SHARED + ("--workers",),
             "one HTML page with the package, the clock tree and the C text",
             "Prints a page that opens from disk and needs nothing from outside.",
             "view TABLE PROJECT > board.html", False),
@@ -145,11 +146,11 @@ def has(name):
 
 def shown(command):
     """The options that a usage line spells; those that several commands share are told as [OPTION..]."""
-    return [name for name in command.options if name not in LIMITED or not shares(command)]
+    return [name for name in command.options if name not in SHARED or not shares(command)]
 
 
 def shares(command):
-    return set(LIMITED) <= set(command.options)
+    return set(SHARED) <= set(command.options)
 
 
 def usage_of(option):

@@ -144,11 +144,11 @@ def line_text(one):
 def nothing_fits(words, said):
     """Signals that want too few pins, interrupts of one number, or the limits that a refutation names."""
     command = commands.COMMANDS.get(words[0]) if words else None
-    if not command or command.name not in ("pins", "resolve"):
+    if not command or not command.proved or "--need" not in command.options:
         return None
     helps = ("`toarnyk explain` with the same words says why" if commands.has("explain") else "",)
     both = read_both(words)
-    title = "no choice meets every limit" if words[0] == "resolve" else "the signals can't all have pins"
+    title = "the signals can't all have pins" if words[0] == "pins" else "no choice meets every limit"
     if both is None:
         return blocks.Block(title, None, (), tuple(filter(None, helps)))
     table, project = both

@@ -24,9 +24,9 @@ def main(argv):
 def inputs_of(words):
     """The files that the words name."""
     command = commands.COMMANDS.get(words[0]) if words else None
-    if not command or not command.proved or command.name == "case":
+    if not command or not command.proved:
         return []
-    return words[1 : 1 + len(command.names)]
+    return [word for name, word in zip(command.names, words[1:]) if name != "NUMBER"]
 
 
 def can_be_read_again(name):
@@ -41,8 +41,8 @@ def can_be_read_again(name):
 def said_again(status, words):
     """What the program says to these words, asked once more; None where that is not sure to be the same."""
     program = os.environ.get("TOARNYK_PROGRAM")
-    is_sure = status in SAYS_A_TEXT or (status == 1 and words[:1] == ["resolve"])
-    if not program or not is_sure or not all(map(can_be_read_again, inputs_of(words))):
+    has_text = status in SAYS_A_TEXT or (status == 1 and words[:1] != ["pins"])
+    if not program or not has_text or not all(map(can_be_read_again, inputs_of(words))):
         return None
     try:
         done = subprocess.run([program, *words], stdin=subprocess.DEVNULL, stdout=subprocess.PIPE,
@@ -73,8 +73,11 @@ def general(status):
         title, notes, helps = FIXED[status]
         return blocks.Block(title, None, notes, helps)
     known = next((entry for entry in commands.STATUSES if entry.number == status), None)
-    return blocks.Block(f"{known.meaning} (status {status})", None, (), ("`toarnyk help` lists what can be given",)) if known else None
+    helps = (AS_FILES,) if status in range(3, 8) or status == 10 else ()
+    return blocks.Block(f"{known.meaning} (status {status})", None, (), helps) if known else None
 
+
+AS_FILES = "give the inputs as plain files, and the line at fault is shown: a pipe can't be read twice"
 
 FIXED = {
     8: ("the output could not be written whole (status 8)",
