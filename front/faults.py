@@ -57,7 +57,7 @@ def unread(words, line):
     folder = os.path.dirname(name) or "."
     if not os.path.isdir(folder):
         return blocks.Block(title, None, (f"there is no folder {blocks.quoted(folder)}",))
-    near = nearest(os.path.basename(name), os.listdir(folder))
+    near = nearest(os.path.basename(name), os.listdir(folder), 3, 0.8)
     notes = ["there is no such file"]
     if near:
         notes.append("the nearest: " + blocks.listed(os.path.normpath(os.path.join(folder, one)) for one in near))

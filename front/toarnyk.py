@@ -9,7 +9,7 @@ import sys
 sys.path.insert(0, os.path.dirname(os.path.abspath(__file__)))
 
 USAGE = 2
-PIPE_CLOSED = 8
+UNWRITTEN = 8
 MODULES = {
     "--hints": "hints",
     "help": "help_text",
@@ -50,7 +50,9 @@ def no_words():
 
 
 def run(argv):
-    """`main`, where a message that can't be made is left out, and a reader that has gone is no fault of ours."""
+    """`main`, where a message that can't be made is left out, and a reader that has gone ends it with the status of that."""
+    if sys.stdout is None or sys.stderr is None:
+        return UNWRITTEN
     for stream in (sys.stdout, sys.stderr):
         stream.reconfigure(errors="backslashreplace")
     try:
@@ -59,7 +61,7 @@ def run(argv):
         return status
     except BrokenPipeError:
         os.dup2(os.open(os.devnull, os.O_WRONLY), sys.stdout.fileno())
-        return PIPE_CLOSED
+        return UNWRITTEN
     except KeyboardInterrupt:
         return 130
     except Exception:
