@@ -59,7 +59,9 @@ def run(argv):
         status = main(argv)
         sys.stdout.flush()
         return status
-    except BrokenPipeError:
+    except OSError as fault:
+        if not isinstance(fault, BrokenPipeError) and argv[:1] != ["--hints"]:
+            sys.stderr.write(f"toarnyk: {fault.strerror or fault}\n")
         os.dup2(os.open(os.devnull, os.O_WRONLY), sys.stdout.fileno())
         return UNWRITTEN
     except KeyboardInterrupt:
