@@ -186,7 +186,7 @@ def ways_out(crowd):
     reasons, ways = {one.why for one in crowd}, []
     if "locked" in reasons:
         locked = [one.pins[0] + ".Locked" for one in crowd if one.why == "locked"]
-        ways.append(f"if the board allows, strike one of {blocks.listed(locked)}")
+        ways.append(f"if the board allows, strike {'one of ' if len(locked) > 1 else ''}{blocks.listed(locked)}")
     if "KeepUserPlacement" in reasons:
         ways.append("if the board allows, strike KeepUserPlacement=true")
     if "--free" in reasons:
