@@ -63,7 +63,17 @@ def man_page():
         around = "" if command.proved else " (Around the program, not proved.)"
         lines += [".TP", f".B {roff(commands.usage_line(command))}", roff(command.summary[0].upper() + command.summary[1:] + "."),
                   roff(command.text + around)]
-    lines.append(".SH OPTIONS")
+    lines += man_lists()
+    lines.append(".SH EXAMPLES")
+    for command in commands.COMMANDS.values():
+        lines += [".TP", f".B toarnyk {roff(command.example)}", roff(command.summary[0].upper() + command.summary[1:] + ".")]
+    lines += [".SH SEE ALSO", "docs/FORMATS.md and README.md, which stand in share/doc/toarnyk of an installation."]
+    return "\n".join(lines) + "\n"
+
+
+def man_lists():
+    """Options, kinds of notes, statuses and environment."""
+    lines = [".SH OPTIONS"]
     for option in commands.OPTIONS.values():
         words = option.name if option.value is None else f"{option.name} {option.value}"
         takers = ", ".join(name for name, command in commands.COMMANDS.items() if option.name in command.options)
@@ -77,11 +87,7 @@ def man_page():
     lines.append(".SH ENVIRONMENT")
     for name, text in commands.ENVIRONMENT:
         lines += [".TP", f".B {roff(name)}", roff(text[0].upper() + text[1:] + ".")]
-    lines.append(".SH EXAMPLES")
-    for command in commands.COMMANDS.values():
-        lines += [".TP", f".B toarnyk {roff(command.example)}", roff(command.summary[0].upper() + command.summary[1:] + ".")]
-    lines += [".SH SEE ALSO", "docs/FORMATS.md and README.md, which stand in share/doc/toarnyk of an installation."]
-    return "\n".join(lines) + "\n"
+    return lines
 
 
 # ---- the completions ----
@@ -127,7 +133,7 @@ def bash():
     options = cases("        ", ((command.name, f'options="{" ".join(command.options)}"') for command in commands.COMMANDS.values() if command.options))
     names = cases("        ", ((command.name, f"names={len(command.names)}") for command in commands.COMMANDS.values()))
     values = cases("        ", ((name, bash_value(option)) for name, option in value_pairs()))
-    roles = cases("        ", ((place, BASH_ROLES[role]) for place, role in role_pairs()))
+    roles = cases("        ", ((place, BASH_ROLES.get(role, BASH_ROLES["PROOF"])) for place, role in role_pairs()))
     return head + BASH.replace("@COMMANDS@", " ".join(commands.COMMANDS)).replace("@OPTIONS@", options).replace(
         "@NAMES@", names).replace("@VALUES@", values).replace("@ROLES@", roles).replace("@SIGNALS@", SIGNALS)
 
@@ -198,7 +204,7 @@ def zsh():
     options = cases("        ", ((command.name, "options=(" + " ".join(command.options) + ")") for command in commands.COMMANDS.values() if command.options))
     names = cases("        ", ((command.name, f"names={len(command.names)}") for command in commands.COMMANDS.values()))
     values = cases("            ", ((name, zsh_value(option)) for name, option in value_pairs()))
-    roles = cases("        ", ((place, ZSH_ROLES[role]) for place, role in role_pairs()))
+    roles = cases("        ", ((place, ZSH_ROLES.get(role, ZSH_ROLES["PROOF"])) for place, role in role_pairs()))
     return head + ZSH.replace("@DESCRIBED@", described).replace("@COMMANDS@", " ".join(commands.COMMANDS)).replace(
         "@OPTIONS@", options).replace("@NAMES@", names).replace("@VALUES@", values).replace("@ROLES@", roles).replace("@SIGNALS@", SIGNALS)
 

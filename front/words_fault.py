@@ -67,8 +67,8 @@ def missing(command, words):
     given = len(words) - 1
     if given < len(command.names):
         return f"`{command.name}` lacks its {command.names[given]}", []
-    option = commands.OPTIONS[words[-1]]
-    return f"`{option.name}` lacks its {option.value}", []
+    option = commands.OPTIONS.get(words[-1])
+    return (f"`{option.name}` lacks its {option.value}" if option else "a word is due at the end"), []
 
 
 def is_value(command, words, number):
