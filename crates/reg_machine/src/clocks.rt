@@ -125,7 +125,7 @@ fn fields_of(s: &State, source: u32) -> ClockChoice
     }
 }
 
-fn src_of(code: u32) -> Src
+pub fn src_of(code: u32) -> Src
     ensures { result ≡ src_of code }
 {
     match code {

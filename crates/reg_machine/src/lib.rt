@@ -3,6 +3,7 @@
 #![tactic(auto)]
 
 mod clocks;
+mod laws;
 mod machine;
 mod op;
 mod pins;
@@ -10,6 +11,7 @@ mod rule;
 mod state;
 mod step;
 
+pub use laws::flags_come_once;
 pub use machine::Machine;
 pub use op::{Answer, Op, Stepped, Timeout};
 pub use pins::{af_kind, is_debug};

@@ -500,6 +500,18 @@ fn an_oscillator_that_never_comes_times_out(rt: HostRuntime) {
     assert_eq!(rt; answer(twice, hse_comes(3), NO), hse, "the third");
 }
 
+/// After a poll, a second one is the last of two, but not behind a read.
+#[test]
+fn a_read_sets_the_polls_back(rt: HostRuntime) {
+    let once = after(with_hse_on(), hse_comes(3), NO);
+    let again = after(once, read(Reg::Cr), NO);
+    assert_eq!(rt; answer(again, hse_comes(2), NO), Stepped::Waiting);
+    assert_eq!(rt;
+        answer(once, hse_comes(2), NO),
+        Stepped::TimedOut { name: Timeout::Hse }
+    );
+}
+
 #[test]
 fn a_switch_comes_when_it_is_answered(rt: HostRuntime) {
     let asked = after(with_hse_on(), set(Reg::Cfgr, 1), YES);

@@ -1,11 +1,11 @@
 //! Expected values are read off RM0090 and the data sheet, or worked out by hand.
 ghost use Rattle.std.specs.Prelude.{◌<◌};
 
-use crate::runs::{Ran, accesses, after, set_up};
+use crate::runs::{Ran, accesses, after, after_flags, set_up};
 use crate::settings::{board, clock_pin};
 use reg_machine::{Answer, Op, Stepped, Timeout};
 use reg_map::{GpioReg, Reg};
-use res_model::Mode;
+use res_model::{Mode, Src};
 use std::alloc::Global;
 use std::test::Fail;
 
@@ -113,6 +113,7 @@ fn a_crystal_that_never_starts_ends_the_run(rt: HostRuntime) -> Result<(), Fail>
         }
     );
     assert_eq!(rt; seen.cfgr, 0, "SWS says HSI");
+    assert_eq!(rt; seen.source, Src::Hsi);
     assert_eq!(rt; seen.hertz[0], 16_000_000);
     Ok(())
 }
@@ -131,6 +132,8 @@ fn the_board_comes_to_168_mhz(rt: HostRuntime) -> Result<(), Fail> {
         }
     );
     assert_eq!(rt; seen.cfgr, 0x0000_940A, "SWS says the PLL");
+    assert_eq!(rt; seen.source, Src::Pll);
+    assert_eq!(rt; seen.latency, 5);
     let buses = [
         168_000_000,
         168_000_000,
@@ -166,6 +169,16 @@ fn pb3_goes_from_af0_to_af5(rt: HostRuntime) -> Result<(), Fail> {
         }
     );
     assert_eq!(rt; seen.modes[0], Mode::Alt(5), "SPI1_SCK");
+    Ok(())
+}
+
+#[test]
+fn a_latency_comes_when_it_is_answered(rt: HostRuntime) -> Result<(), Fail> {
+    let asked = [write(Reg::Acr, 0x0000_0705)];
+    let none = after_flags(rt.alloc(), &board(), asked.as_slice(), NO)?;
+    assert_eq!(rt; none.latency, 0);
+    let come = after_flags(rt.alloc(), &board(), asked.as_slice(), YES)?;
+    assert_eq!(rt; come.latency, 5);
     Ok(())
 }
 
