@@ -1,3 +1,4 @@
+//! The machine: its state with the table and the target.
 ghost use Rattle.std.specs.Prelude.{◌≡◌, ◌^◌, ◌<◌};
 ghost use Rattle.reg_machine.specs.Legal.{is_legal};
 ghost use Rattle.reg_machine.specs.Words.{IsStored};

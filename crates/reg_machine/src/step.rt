@@ -1,3 +1,4 @@
+//! What an op does to the state.
 ghost use Rattle.std.specs.Prelude.{◌≡◌, ℕ, ◌+◌, ◌*◌, ◌^◌, ◌<◌, Some, None};
 ghost use Rattle.reg_map.specs.Registers.{IsRegister};
 ghost use Rattle.reg_machine.specs.Words.{word_of, number, slot, IsStored, IsOp};
@@ -5,8 +6,8 @@ ghost use Rattle.reg_machine.specs.Rules.{bars};
 ghost use Rattle.reg_machine.specs.Awaits.{awaits_ready, awaits_switch, awaits_latency, is_lawful};
 ghost use Rattle.reg_machine.specs.Step.{flags, stored, noted, went, store, poll, is_acr, act, step_of};
 
-use crate::op::{Answer, Op, Stepped, Timeout};
-use crate::rule::{HSEON, PLLON, barred, bit};
+use crate::op::{Answer, Op, Rule, Stepped, Timeout};
+use crate::rules::{HSEON, PLLON, barred, bit};
 use crate::state::State;
 use reg_map::{GpioReg, Reg};
 
@@ -22,7 +23,9 @@ pub fn step(s: &mut State, op: &Op, a: Answer) -> Stepped
         Op::Write { reg, value } => store_word(s, reg, value),
         Op::Modify { reg, clear, set } => {
             if is_acr(reg) {
-                Stepped::Forbidden { rule: 15 }
+                Stepped::Forbidden {
+                    rule: Rule::AcrModifiedOrOtherBit,
+                }
             } else {
                 let value = (word(s, reg) & !clear) | set;
                 store_word(s, reg, value)
@@ -39,7 +42,9 @@ pub fn step(s: &mut State, op: &Op, a: Answer) -> Stepped
             if 0 < polls && lawful(s, reg, mask, want, name) {
                 poll(s, reg, mask, want, polls, name)
             } else {
-                Stepped::Forbidden { rule: 18 }
+                Stepped::Forbidden {
+                    rule: Rule::AwaitUnlawful,
+                }
             }
         }
     }

@@ -89,12 +89,12 @@ fn is_known(op: &Op) -> bool
     }
 }
 
-/// One step; an access to a port that there is not is forbidden by no rule's number.
+/// One step; an access to a port that there is not never goes on.
 fn stepped(m: &mut Machine, op: &Op, a: Answer) -> Stepped {
     if is_known(op) {
         m.step(op, a)
     } else {
-        Stepped::Forbidden { rule: 0 }
+        Stepped::Waiting
     }
 }
 
