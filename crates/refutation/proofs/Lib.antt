@@ -2,6 +2,7 @@ pub mod AcceptLemmas
 pub mod AgainLemmas
 pub mod CanonLemmas
 pub mod CauseLemmas
+pub mod ConverseLemmas
 pub mod CutLemmas
 pub mod FormLemmas
 pub mod FromLemmas

@@ -9,7 +9,7 @@ ghost use Rattle.refutation.specs.Outcomes.{IsCovered, IsSound, IsOwned};
 ghost use Rattle.refutation.specs.Trees.{Tree, nodes_of};
 ghost use Rattle.refutation.specs.Canonical.{IsCanonicalOf};
 ghost use Rattle.refutation.specs.Forms.{Form, form_of, takes_up, FitsForm, FitsBound, HasWords};
-ghost use Rattle.refutation.specs.Spelling.{lines_text, spelling};
+ghost use Rattle.refutation.specs.Spelling.{lines_text, spelling, Spells};
 ghost use Rattle.refutation.specs.Reading.{proof_of, IsPassedOver};
 
 /// One meaning and one bound have one canonical node list.
@@ -27,6 +27,11 @@ pub fn accounted_outcome_serves()
 /// What was written is read again, also behind lines that are passed over.
 pub fn written_is_read()
     ensures { (before : List (List ℕ)) (bound : Option ℕ) (forms : List Form) → Each IsPassedOver before → FitsBound bound → Each FitsForm forms → takes_up 1 forms ≡ true → proof_of (lines_text before ++ spelling bound forms) ≡ Ok (bound, forms) }
+{}
+
+/// What is read is the spelling of its bound and nodes, behind lines that are passed over: no other text is read.
+pub fn read_is_written()
+    ensures { (text : List ℕ) (bound : Option ℕ) (forms : List Form) → proof_of text ≡ Ok (bound, forms) → Spells text bound forms }
 {}
 
 /// The nodes of a tree make up one tree.

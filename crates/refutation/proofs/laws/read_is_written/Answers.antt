@@ -1,0 +1,5 @@
+use Rattle.refutation.proofs.ConverseLemmas.{read_back}
+use Rattle.refutation.proofs.laws.read_is_written.Goals as goal
+
+pub returns : goal.returns
+returns c = read_back
