@@ -2,13 +2,14 @@
 ghost use Rattle.std.specs.Prelude.{◌≡◌, ℕ, ◌++◌, List, map, true, Option, Ok};
 ghost use Rattle.res_base.specs.Lists.{Each};
 ghost use Rattle.search_api.specs.declared.outcome.Closed.{Closed};
-ghost use Rattle.search_api.specs.Meaning.{Meaning};
+ghost use Rattle.search_api.specs.Meaning.{Meaning, IsLawful};
 ghost use Rattle.search_api.specs.Accounts.{Accounted};
 ghost use Rattle.refutation.specs.declared.node.Node.{Node};
 ghost use Rattle.refutation.specs.Outcomes.{IsCovered, IsSound, IsOwned};
 ghost use Rattle.refutation.specs.Trees.{Tree, nodes_of};
 ghost use Rattle.refutation.specs.Canonical.{IsCanonicalOf};
 ghost use Rattle.refutation.specs.Forms.{Form, form_of, takes_up, FitsForm, FitsBound, HasWords};
+ghost use Rattle.refutation.specs.Lines.{ReasonsHaveLines};
 ghost use Rattle.refutation.specs.Spelling.{lines_text, spelling, Spells};
 ghost use Rattle.refutation.specs.Reading.{proof_of, IsPassedOver};
 
@@ -32,6 +33,13 @@ pub fn written_is_read()
 /// What is read is the spelling of its bound and nodes, behind lines that are passed over: no other text is read.
 pub fn read_is_written()
     ensures { (text : List ℕ) (bound : Option ℕ) (forms : List Form) → proof_of text ≡ Ok (bound, forms) → Spells text bound forms }
+{}
+
+/// The text of a canonical proof is read as its bound and its nodes, also behind lines that are passed over, where each
+/// reason of the judge has a line.
+pub fn canonical_is_read()
+    ensures fits { (m : Meaning) (bound : Option ℕ) (nodes : List Node) → IsLawful m → ReasonsHaveLines m → IsCanonicalOf m bound nodes → Each FitsForm (map form_of nodes) }
+    ensures read { (m : Meaning) (bound : Option ℕ) (nodes : List Node) (before : List (List ℕ)) → IsLawful m → ReasonsHaveLines m → FitsBound bound → IsCanonicalOf m bound nodes → Each IsPassedOver before → proof_of (lines_text before ++ spelling bound (map form_of nodes)) ≡ Ok (bound, map form_of nodes) }
 {}
 
 /// The nodes of a tree make up one tree.
