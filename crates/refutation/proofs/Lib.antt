@@ -4,6 +4,7 @@ pub mod CanonLemmas
 pub mod CauseLemmas
 pub mod ConverseLemmas
 pub mod CutLemmas
+pub mod FewLemmas
 pub mod FitLemmas
 pub mod FormLemmas
 pub mod FromLemmas

@@ -40,6 +40,12 @@ forms_text (f ∷ fs) = form_text f ++ 10 ∷ forms_text fs
 unfoldable pub spelling : Option ℕ → List Form → List ℕ
 spelling bound forms = codes "proof 1" ++ 10 ∷ (bound_text bound ++ 10 ∷ (forms_text forms ++ (codes "end" ++ 10 ∷ [])))
 
+-- the text is whole lines, and each is passed over
+pub record ArePassedOver (text : List ℕ) : Type 0 where
+  pub lines : List (List ℕ)
+  pub passed : Each IsPassedOver lines
+  pub text_is : text ≡ lines_text lines
+
 -- the text is lines that are passed over, and then the spelling of this bound and of the nodes of one tree, each with a line
 pub record Spells (text : List ℕ) (bound : Option ℕ) (forms : List Form) : Type 0 where
   pub before : List (List ℕ)

@@ -1,5 +1,5 @@
 //! Laws of refutations: functions that do nothing, whose contracts are the laws.
-ghost use Rattle.std.specs.Prelude.{◌≡◌, ℕ, ◌++◌, List, map, true, Option, Ok};
+ghost use Rattle.std.specs.Prelude.{◌≡◌, ◌≤◌, ℕ, ◌++◌, List, length, map, true, Option, Ok};
 ghost use Rattle.res_base.specs.Lists.{Each};
 ghost use Rattle.search_api.specs.declared.outcome.Closed.{Closed};
 ghost use Rattle.search_api.specs.Meaning.{Meaning, IsLawful};
@@ -18,11 +18,12 @@ pub fn canonical_is_one()
     ensures { (m : Meaning) (bound : Option ℕ) (nodes others : List Node) → IsCanonicalOf m bound nodes → IsCanonicalOf m bound others → nodes ≡ others }
 {}
 
-/// An accounted outcome has all that `canonical` and its clauses ask for.
+/// An accounted outcome has all that `canonical` and its clauses ask for, and its best rank fits the line of a bound.
 pub fn accounted_outcome_serves()
     ensures covered { (m : Meaning) (best : Option ℕ) (kept : List ℕ) (closed : List Closed) → Accounted m best kept closed → IsCovered m.shape best kept closed }
     ensures sound { (m : Meaning) (best : Option ℕ) (kept : List ℕ) (closed : List Closed) → Accounted m best kept closed → IsSound m kept closed }
     ensures owned { (m : Meaning) (best : Option ℕ) (kept : List ℕ) (closed : List Closed) → Accounted m best kept closed → IsOwned m closed }
+    ensures bound { (m : Meaning) (best : Option ℕ) (kept : List ℕ) (closed : List Closed) → IsLawful m → Accounted m best kept closed → FitsBound best }
 {}
 
 /// What was written is read again, also behind lines that are passed over.
@@ -30,9 +31,11 @@ pub fn written_is_read()
     ensures { (before : List (List ℕ)) (bound : Option ℕ) (forms : List Form) → Each IsPassedOver before → FitsBound bound → Each FitsForm forms → takes_up 1 forms ≡ true → proof_of (lines_text before ++ spelling bound forms) ≡ Ok (bound, forms) }
 {}
 
-/// What is read is the spelling of its bound and nodes, behind lines that are passed over: no other text is read.
+/// What is read is the spelling of its bound and nodes, behind lines that are passed over: no other text is read. So it has
+/// at least as many bytes as nodes.
 pub fn read_is_written()
-    ensures { (text : List ℕ) (bound : Option ℕ) (forms : List Form) → proof_of text ≡ Ok (bound, forms) → Spells text bound forms }
+    ensures spells { (text : List ℕ) (bound : Option ℕ) (forms : List Form) → proof_of text ≡ Ok (bound, forms) → Spells text bound forms }
+    ensures few { (text : List ℕ) (bound : Option ℕ) (forms : List Form) → proof_of text ≡ Ok (bound, forms) → length forms ≤ length text }
 {}
 
 /// The text of a canonical proof is read as its bound and its nodes, also behind lines that are passed over, where each
