@@ -15,7 +15,7 @@ use Rattle.refutation.specs.declared.node.ProofFault.{ProofFault}
 use Rattle.refutation.specs.declared.node.ProofFault.TheVariants as fault
 use Rattle.refutation.specs.Forms.{Form, SplitForm, HallForm, LimitForm, RankForm, WitnessForm, due_after, takes_up, IsAscending, FitsForm, FitsBound}
 use Rattle.refutation.specs.Spelling.{spaced, class_text, form_text, bound_text, lines_text, forms_text, spelling, Spells}
-use Rattle.refutation.specs.Reading.{Line, onto_line, lines_of, is_space, fields, number_of, number_below, number_from, variables_from, split_form, hall_form, limit_form, form_of_text, bound_of_text, ended_as, is_text, with_front, with_bound, forms_from, bound_from, proof_from, proof_of}
+use Rattle.refutation.specs.Reading.{Line, onto_line, lines_of, line_after, is_space, fields, number_of, number_below, number_from, variables_from, split_form, hall_form, limit_form, form_of_text, bound_of_text, ended_as, is_text, with_front, with_bound, forms_from, bound_from, proof_from, proof_of}
 use Rattle.refutation.proofs.CutLemmas.{some_field}
 use Rattle.refutation.proofs.FormLemmas.{append_nil}
 
@@ -356,17 +356,17 @@ forms_back (l ∷ []) text number zero forms is e = elim (bool_cases (l.ended &&
   | inr t ↦ absurd (no_ok (fault.Line number) forms (rw t at e))
 ]
 forms_back (l ∷ m ∷ ls) text number zero forms is e = elim (bool_cases (l.ended && is_text (codes "end") l)) [
-  | inl t ↦ absurd (no_ok (fault.Line (number + 1)) forms (rw t at e))
+  | inl t ↦ absurd (no_ok (fault.Line (line_after number)) forms (rw t at e))
   | inr t ↦ absurd (no_ok (fault.Line number) forms (rw t at e))
 ]
 forms_back (l ∷ ls) text number (suc due) forms is e =
-    let a = ok_or (λ f. with_front (f ∷ []) (forms_from (number + 1) (due_after (suc due) f) ls)) (ended_as form_of_text l) (fault.Line number) forms e in
+    let a = ok_or (λ f. with_front (f ∷ []) (forms_from (line_after number) (due_after (suc due) f) ls)) (ended_as form_of_text l) (fault.Line number) forms e in
     let f = a.0 in
     let line = ended_back form_of_text l f a.1 in
     let node = form_back l.text f line.1 in
-    let b = front_back (f ∷ []) (forms_from (number + 1) (due_after (suc due) f) ls) forms a.2 in
+    let b = front_back (f ∷ []) (forms_from (line_after number) (due_after (suc due) f) ls) forms a.2 in
     let r = first_line text l ls is line.0 in
-    let rest = forms_back ls r.rest (number + 1) (due_after (suc due) f) b.0 r.rest_is b.1 in
+    let rest = forms_back ls r.rest (line_after number) (due_after (suc due) f) b.0 r.rest_is b.1 in
     let some : ltb 0 (suc due) ≡ true = grind (arith, nat_tests) in
     let whole : text ≡ forms_text (f ∷ b.0) ++ last_text =
     r.text_is ∙ ap (λ xs. xs ++ 10 ∷ r.rest) node.1 ∙ ap (λ xs. form_text f ++ 10 ∷ xs) rest.text_is ∙ sym (append_assoc (form_text f) (10 ∷ forms_text b.0) last_text) in
@@ -384,13 +384,13 @@ headed : (text : List ℕ) (l : Line) (ls : List Line) (number : ℕ) (bound : O
 unfolding spelling last_text
 headed text l [] number bound forms is head end e = absurd (no_ok (fault.Line number) (bound, forms) e)
 headed text l (m ∷ ms) number bound forms is head end e =
-    let a = ok_or (λ bound. with_bound bound (forms_from (number + 1) 1 ms)) (ended_as bound_of_text m) (fault.Line number) (bound, forms) e in
+    let a = ok_or (λ bound. with_bound bound (forms_from (line_after number) 1 ms)) (ended_as bound_of_text m) (fault.Line number) (bound, forms) e in
     let line = ended_back bound_of_text m a.0 a.1 in
     let said = bound_back m.text a.0 line.1 in
-    let b = bound_from_back a.0 (forms_from (number + 1) 1 ms) bound forms a.2 in
+    let b = bound_from_back a.0 (forms_from (line_after number) 1 ms) bound forms a.2 in
     let first = first_line text l (m ∷ ms) is end in
     let second = first_line first.rest m ms first.rest_is line.0 in
-    let nodes = forms_back ms second.rest (number + 1) 1 forms second.rest_is b.0 in
+    let nodes = forms_back ms second.rest (line_after number) 1 forms second.rest_is b.0 in
     let whole : text ≡ spelling bound forms =
     first.text_is ∙ ap (λ xs. xs ++ 10 ∷ first.rest) (same_text l.text (codes "proof 1") head) ∙ ap (λ xs. codes "proof 1" ++ 10 ∷ xs) second.text_is
     ∙ ap (λ xs. codes "proof 1" ++ 10 ∷ (xs ++ 10 ∷ second.rest)) (said.1 ∙ ap bound_text b.1) ∙ ap (λ xs. codes "proof 1" ++ 10 ∷ (bound_text bound ++ 10 ∷ xs)) nodes.text_is in
@@ -400,20 +400,20 @@ proof_back : (ls : List Line) (text : List ℕ) (number : ℕ) (bound : Option �
 proof_back [] text number bound forms is e = absurd (no_ok (fault.Line number) (bound, forms) e)
 proof_back (l ∷ ls) text number bound forms is e = elim (bool_cases (is_text (codes "proof 1") l)) [
   | inl head ↦ elim (bool_cases l.ended) [
-    | inl end ↦ headed text l ls (number + 1) bound forms is head end (rw (head, end) at e)
+    | inl end ↦ headed text l ls (line_after number) bound forms is head end (rw (head, end) at e)
     | inr end ↦ absurd (no_ok (fault.Line number) (bound, forms) (rw (head, end) at e))
   ]
   | inr other ↦ elim (bool_cases l.ended) [
     | inl end ↦
         let first = first_line text l ls is end in
-        let rest = proof_back ls first.rest (number + 1) bound forms first.rest_is (rw other at e) in
+        let rest = proof_back ls first.rest (line_after number) bound forms first.rest_is (rw other at e) in
         let whole : text ≡ lines_text (l.text ∷ rest.before) ++ spelling bound forms =
         first.text_is ∙ ap (λ xs. l.text ++ 10 ∷ xs) rest.text_is ∙ sym (append_assoc l.text (10 ∷ lines_text rest.before) (spelling bound forms)) in
         record { before = l.text ∷ rest.before; passed = ((first.clean, other), rest.passed); text_is = whole; bound_fits = rest.bound_fits; forms_fit = rest.forms_fit; one_tree = rest.one_tree }
     | inr end ↦
         let none : ls ≡ [] = last_line text l ls is end in
-        let z : proof_from (number + 1) ls ≡ Ok (bound, forms) = rw other at e in
-        absurd (no_ok (fault.Line (number + 1)) (bound, forms) (sym (ap (proof_from (number + 1)) none) ∙ z))
+        let z : proof_from (line_after number) ls ≡ Ok (bound, forms) = rw other at e in
+        absurd (no_ok (fault.Line (line_after number)) (bound, forms) (sym (ap (proof_from (line_after number)) none) ∙ z))
   ]
 ]
 
