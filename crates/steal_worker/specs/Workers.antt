@@ -9,10 +9,10 @@ use Rattle.steal_worker.specs.Walks.{held_places}
 
 module _ {J S : Type 0} where
   -- the worker of this number, which kept, saw, holds and closed nothing
-  pub record IsNewWalker {T : Type 0} (fits : S → Type 0) (word : BestWord J T) (number : ℕ) (w : Walker J S) : Type 0 where
-    pub number : w.number ≡ number
+  pub record IsNewWalker {T : Type 0} (IsFit : S → Type 0) (word : BestWord J T) (k : ℕ) (w : Walker J S) : Type 0 where
+    pub number : w.number ≡ k
     pub seat : IsSeatOf word w.seat
     pub view : best_view w.seat ≡ newcomer Other
-    pub fits : fits w.scratch
+    pub fits : IsFit w.scratch
     pub held : held_places w.held ≡ []
     pub closed : w.closed ≡ []

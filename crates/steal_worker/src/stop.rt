@@ -2,6 +2,7 @@
 use std::sync::atomic::{AtomicBool, AtomicU64, Ordering};
 
 /// The number of boxes that are not closed, and whether all are to stop before it is 0.
+#[derive(Drop)]
 pub struct Stop {
     open: AtomicU64,
     stopped: AtomicBool,
