@@ -83,6 +83,14 @@ module _ (m : Meaning) where
         open_above = a.open_above;
       }
 
+  -- the same of its parts
+  pub opened : (n : ℕ) → 1 ≤ n → (ds : List (List ℕ)) (hs : List Hand) (ks : List ℕ) (es : List Closed) → ds ≡ (1 ∷ []) ∷ replicate (n - 1) [] → hs ≡ replicate n empty_hand → ks ≡ [] → es ≡ [] → Fits m (record { deques = ds; hands = hs; word = None; kept = ks; closed = es })
+  opened n some ds hs ks es d h k e =
+      subst (λ (x : List (List ℕ)). Fits m (record { deques = x; hands = hs; word = None; kept = ks; closed = es })) (sym d)
+      (subst (λ (x : List Hand). Fits m (record { deques = (1 ∷ []) ∷ replicate (n - 1) []; hands = x; word = None; kept = ks; closed = es })) (sym h)
+      (subst (λ (x : List ℕ). Fits m (record { deques = (1 ∷ []) ∷ replicate (n - 1) []; hands = replicate n empty_hand; word = None; kept = x; closed = es })) (sym k)
+      (subst (λ (x : List Closed). Fits m (record { deques = (1 ∷ []) ∷ replicate (n - 1) []; hands = replicate n empty_hand; word = None; kept = []; closed = x })) (sym e) (opening_fits n some))))
+
   pub step_fits : IsLawful m → (c new : Core) (e : Event) → Step m c e new → Fits m c → Fits m new
   step_fits lawful c new (event.Pop w) s f = pop_fits m c new w s f
   step_fits lawful c new (event.Steal w from) s f = steal_fits m c new w from s f

@@ -1,5 +1,7 @@
 ghost use Rattle.std.specs.Prelude.{◌≡◌, ◌≤◌, IfOk};
+ghost use Rattle.search_api.specs.Meaning.{Meaning};
 ghost use Rattle.search_core.specs.Events.{opening};
+ghost use Rattle.search_core.specs.Fits.{Fits};
 
 use crate::hands::{deques_of, hands_of};
 use res_base::{Items, OutOfMemory};
@@ -30,7 +32,8 @@ impl Core {
     pub fn new(alloc: Global, workers: u32) -> Result<Core, OutOfMemory>
         requires some { 1 ≤ workers }
         requires few { workers ≤ 16 }
-        ensures { IfOk result (λ c. c ≡ opening workers) }
+        ensures opening { IfOk result (λ c. c ≡ opening workers) }
+        ensures fits { IfOk result (λ c. (m : Meaning) → Fits m c) }
     {
         Ok(Core {
             deques: Items::of(deques_of(alloc, workers as usize)?),
