@@ -34,7 +34,7 @@ pub(crate) fn steal(core: &mut Core, w: u32, from: u32) -> bool
     if from == w {
         return false;
     }
-    let Some(hand) = idle_hand(core, w) else {
+    let Some(thief) = idle_hand(core, w) else {
         return false;
     };
     let Some(path) = take_first(&mut core.deques, from) else {
@@ -45,7 +45,7 @@ pub(crate) fn steal(core: &mut Core, w: u32, from: u32) -> bool
         w,
         Hand {
             path: Some(path),
-            ..hand
+            ..thief
         },
     );
     true
