@@ -12,10 +12,9 @@ others First = 0
 others Other = 1
 others Spent = 0
 
--- one view is first, only it counts, and it counts the others
+-- one view at most is first, only it counts, and it counts the others
 pub record OneFirst {V : Type 0} (part : V → Part) (out : V → ℕ) (views : List V) : Type 0 where
   pub seat : ℕ
-  pub there : (v : V) × (get_elem? views seat ≡ some v) × (part v ≡ First)
   pub one : (port : ℕ) (v : V) → get_elem? views port ≡ some v → part v ≡ First → port ≡ seat
   pub only : (port : ℕ) (v : V) → get_elem? views port ≡ some v → part v ≢ First → out v ≡ 0
   pub count : total (λ v. others (part v)) views ≡ total out views

@@ -42,6 +42,7 @@ module _ {J : Type 0} where
     pub low : (port : ℕ) (v : View J) → get_elem? views port ≡ some v → (r : ℕ) → Member r v.kept → n ≤ r
     pub stands : n < 2 ^ 63 → KeptBy views n
     pub seen : (port : ℕ) (v : View J) → get_elem? views port ≡ some v → (r : ℕ) → Member r v.saw → KeptBy views r
+    pub first : (port : ℕ) × (v : View J) × (get_elem? views port ≡ some v) × (v.part ≡ First)
     pub parts : OneFirst (λ (v : View J). v.part) (λ v. v.out) views
     pub spent : (port : ℕ) (v : View J) → get_elem? views port ≡ some v → v.part ≡ Spent → (v.kept ≡ []) × (v.saw ≡ [])
 
