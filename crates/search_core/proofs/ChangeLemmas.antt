@@ -77,6 +77,14 @@ member_times x xs h =
 pub times_member : (x : ℕ) (xs : List ℕ) → Member x xs → 0 < times x xs
 times_member x xs i = omega (arith, part_of (λ y. one_if (eqb y x)) x xs i, once_itself x)
 
+-- each time that a number stands in a list adds its weight
+pub times_weight : (g : ℕ → ℕ) (x : ℕ) (xs : List ℕ) → g x ≡ 1 → times x xs ≤ total g xs
+times_weight g x [] e = omega arith
+times_weight g x (y ∷ ys) e = elim (same_or y x) [
+  | inl s ↦ omega (arith, ap g s.0, ap one_if s.1, e, times_weight g x ys e)
+  | inr d ↦ omega (arith, ap one_if d.1, times_weight g x ys e)
+]
+
 pub each_member : {X : Type 0} (P : X → Type 0) (xs : List X) → ((x : X) → Member x xs → P x) → Each P xs
 each_member P [] h = tt
 each_member P (x ∷ xs) h = (h x (inl refl), each_member P xs (λ y i. h y (inr i)))

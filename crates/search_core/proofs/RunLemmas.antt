@@ -7,7 +7,12 @@ use Rattle.std.proofs.lemmas.List.{length-replicate}
 use Rattle.res_base.specs.declared.memory.OutOfMemory.{OutOfMemory}
 use Rattle.res_base.specs.Lists.{Each, Member, total}
 use Rattle.res_base.proofs.ListLemmas.{each_in, member_right}
-use Rattle.box_split.specs.Paths.{covers}
+use Rattle.res_base.proofs.SumLemmas.{pos_cases}
+use Rattle.box_split.specs.Boxes.{lows}
+use Rattle.box_split.specs.Paths.{box_of, covers}
+use Rattle.box_split.proofs.LawLemmas.{some_box}
+use Rattle.box_split.proofs.PathLemmas.{path_box, lows_choice}
+use Rattle.box_split.proofs.PrefixLemmas.{counted, lows_held}
 use Rattle.search_api.specs.declared.outcome.Closed.{Closed}
 use Rattle.search_api.specs.Meaning.{Meaning, IsLawful}
 use Rattle.search_api.specs.Accounts.{IsBest, OpenAbove}
@@ -16,9 +21,9 @@ use Rattle.search_core.specs.declared.event.Event.TheVariants as event
 use Rattle.search_core.specs.declared.state.Hand.{Hand}
 use Rattle.search_core.specs.declared.state.Core.{Core}
 use Rattle.search_core.specs.Events.{Answers, Tells, Cuts, IsIdle, Step, empty_hand, opening}
-use Rattle.search_core.specs.Fits.{Fits, IsSeen, IsWord, entries, owed}
+use Rattle.search_core.specs.Fits.{Fits, NoneTwice, times, IsSeen, IsWord, entries, owed}
 use Rattle.search_core.specs.Runs.{CutsByKept, Goes, IsAccount, IsFinished, Runs}
-use Rattle.search_core.proofs.ChangeLemmas.{each_get, each_member}
+use Rattle.search_core.proofs.ChangeLemmas.{each_get, each_member, member_times, times_weight}
 use Rattle.search_core.proofs.EntryLemmas.{entries_first, entries_moved, in_hand, weigh}
 use Rattle.search_core.proofs.RankLemmas.{no_ranks, ranks_same}
 use Rattle.search_core.proofs.FitLemmas.{pop_fits, steal_fits, see_fits, cut_fits, bad_fits, split_fits, keep_fits, offer_fits}
@@ -102,7 +107,7 @@ module _ (m : Meaning) where
   step_fits lawful c new (event.See w) s f = see_fits m c new w s f
 
   goes_fits : IsLawful m → (c new : Core) (e : Event) → Goes m c e new → Fits m c → Fits m new
-  goes_fits lawful c new e g f = elim g [ inl s ↦ step_fits lawful c new e s f | inr s ↦ subst (Fits m) (sym s.1) f ]
+  goes_fits lawful c new e g f = elim g [ inl s ↦ step_fits lawful c new e s f | inr s ↦ subst (Fits m) (sym s) f ]
 
   pub run_fits : IsLawful m → (events : List Event) (c end : Core) → Runs m c events end → Fits m c → Fits m end
   run_fits lawful [] c end r f = subst (Fits m) (sym r) f
@@ -116,6 +121,18 @@ module _ (m : Meaning) where
   pub answer_fits : IsLawful m → (c new : Core) (e : Event) (r : Result Bool OutOfMemory) → Answers (Step m c e) c new r → Fits m c → Fits m new
   answer_fits lawful c new e (Ok b) s f = tell_fits lawful c new e b s f
   answer_fits lawful c new e (Err x) s f = subst (Fits m) (sym s) f
+
+  -- no path stands in two places: its lowest choice would be covered twice
+  pub stands_once : IsLawful m → (c : Core) → Fits m c → NoneTwice (entries c)
+  stands_once lawful c f path = elim (pos_cases (times path (entries c))) [
+    | inl p ↦
+        let b = some_box (box_of m.shape path) (each_in (λ q. IsSome (box_of m.shape q)) path (entries c) f.paths (member_times path (entries c) p)) in
+        let is = path_box m.shape path b.0 lawful.is_shape.positions b.1 in
+        let choice = lows b.0 in
+        let g : ℕ → ℕ = λ q. covers m.shape q choice in
+        omega (arith, times_weight g path (entries c) (counted m.shape choice path b.0 b.1 (lows_held m.shape b.0 is)), f.cover choice (lows_choice m.shape b.0 is))
+    | inr z ↦ omega (arith, z)
+  ]
 
   pub cut_kept : (c new : Core) (w : ℕ) → Fits m c → Cuts m c w new → CutsByKept c w new
   cut_kept c new w f p =

@@ -7,11 +7,11 @@ use Rattle.search_api.specs.Meaning.{Meaning}
 use Rattle.search_api.specs.Accounts.{CoverOnce, IsBest, IsEntry, IsLegalRank, OpenAbove}
 use Rattle.search_core.specs.declared.event.Event.{Event}
 use Rattle.search_core.specs.declared.state.Core.{Core}
-use Rattle.search_core.specs.Events.{IsIdle, IsPossible, Step}
+use Rattle.search_core.specs.Events.{IsIdle, Step}
 
--- an event makes its step, or leaves the core where it is not possible
+-- an event makes its step, or leaves the core: where it is not possible, or where memory ran out
 abbrev pub Goes : Meaning → Core → Event → Core → Type 0
-Goes m c e new = Step m c e new ⊎ ((IsPossible m c e → ⊥) × (new ≡ c))
+Goes m c e new = Step m c e new ⊎ (new ≡ c)
 
 -- a list of events makes the one core the other
 abbrev pub Runs : Meaning → Core → List Event → Core → Type 0

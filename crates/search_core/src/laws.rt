@@ -5,12 +5,17 @@ ghost use Rattle.search_core.specs.declared.event.Event.{Event};
 ghost use Rattle.search_core.specs.declared.event.Event.TheVariants as event;
 ghost use Rattle.search_core.specs.declared.state.Core.{Core};
 ghost use Rattle.search_core.specs.Events.{Step, opening};
-ghost use Rattle.search_core.specs.Fits.{Fits};
+ghost use Rattle.search_core.specs.Fits.{Fits, NoneTwice, entries};
 ghost use Rattle.search_core.specs.Runs.{CutsByKept, IsAccount, IsFinished, Runs};
 
 /// Over every list of events from a new core on, each choice lies in one box, and all else holds that a core keeps.
 pub fn every_run_fits()
     ensures { (m : Meaning) (workers : ℕ) (events : List Event) (c : Core) → IsLawful m → 1 ≤ workers → Runs m (opening workers) events c → Fits m c }
+{}
+
+/// Over every list of events, no path is in two deques, hands or closed boxes at a time: each box is claimed once.
+pub fn each_box_is_claimed_once()
+    ensures { (m : Meaning) (workers : ℕ) (events : List Event) (c : Core) → IsLawful m → 1 ≤ workers → Runs m (opening workers) events c → NoneTwice (entries c) }
 {}
 
 /// A core has one end of each event.

@@ -12,6 +12,7 @@ mod step;
 
 pub use event::Event;
 pub use laws::{
-    each_cut_uses_a_kept_rank, every_run_fits, finished_core_is_accounted, step_has_one_end,
+    each_box_is_claimed_once, each_cut_uses_a_kept_rank, every_run_fits,
+    finished_core_is_accounted, step_has_one_end,
 };
 pub use state::{Core, Hand};
