@@ -14,7 +14,10 @@ mod timing;
 
 pub use answers::{CanAnswer, answer, can_text};
 pub use judge::{CanJudge, check_can};
-pub use laws::{choices_are_timings, lower_ranks_come_first, verdicts_are_lawful};
+pub use laws::{
+    choices_are_timings, least_choice_is_the_first_timing, lower_ranks_come_first,
+    no_choice_is_no_timing, verdicts_are_lawful,
+};
 pub use register::btr;
 pub use request::Request;
 pub use timing::{Timing, timing_of};
