@@ -1,7 +1,7 @@
 -- What the least choice says of all timings.
-use Rattle.std.proofs.Common.{◌≡◌, ℕ, ◌<◌, List, true, ◌⊎◌, inl, inr, sym, ap, subst, ◌∙◌, arith}
+use Rattle.std.proofs.Common.{◌≡◌, ℕ, List, true, ◌⊎◌, inl, inr, sym, ap, subst, ◌∙◌, arith}
 use Rattle.std.proofs.lemmas.Bool.{cases_lt}
-use Rattle.choice_rank.specs.Choices.{IsChoice, rank_of}
+use Rattle.choice_rank.specs.Choices.{rank_of}
 use Rattle.choice_rank.specs.Least.{IsLeast, NoneLegal}
 use Rattle.choice_rank.proofs.ChoiceLemmas.{rank_same}
 use Rattle.can_timing.specs.declared.request.Request.{Request}
