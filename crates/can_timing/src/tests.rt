@@ -44,39 +44,6 @@ fn no_timing_has_the_very_sample_point(rt: HostRuntime) -> Result<(), Fail> {
 }
 
 #[test]
-fn a_sample_point_out_of_reach_is_limit_4(rt: HostRuntime) -> Result<(), Fail> {
-    let a = answer(rt.alloc(), Ratio::whole(42_000_000), 500_000, 1, 0)?;
-    assert_eq!(rt; a.status, 1);
-    assert_eq!(rt;
-        a.text.as_slice(),
-        b"proof 1\nbound none\nL 4\nend\n".as_slice()
-    );
-    Ok(())
-}
-
-#[test]
-fn a_tolerance_may_pass_both_ends(rt: HostRuntime) -> Result<(), Fail> {
-    let a = answer(rt.alloc(), Ratio::whole(42_000_000), 500_000, 500, 999)?;
-    assert_eq!(rt; a.status, 0);
-    assert_eq!(rt;
-        a.text.as_slice(),
-        b"rank 479 of 131072\nbrp 4 bs1 12 bs2 8\nquanta 21 point 619\nPCLK1 42000000 rate 500000\nBTR 0x007B0003\n".as_slice()
-    );
-    Ok(())
-}
-
-#[test]
-fn the_very_sample_point_is_within_no_tolerance(rt: HostRuntime) -> Result<(), Fail> {
-    let a = at_42(rt.alloc(), 250_000, 0)?;
-    assert_eq!(rt; a.status, 0);
-    assert_eq!(rt;
-        a.text.as_slice(),
-        b"rank 2600 of 131072\nbrp 21 bs1 6 bs2 1\nquanta 8 point 875\nPCLK1 42000000 rate 250000\nBTR 0x00050014\n".as_slice()
-    );
-    Ok(())
-}
-
-#[test]
 fn a_rate_is_not_rounded(rt: HostRuntime) -> Result<(), Fail> {
     // 42,000,000 is no multiple of 499,900.
     assert_eq!(rt; at_42(rt.alloc(), 499_900, 20)?.status, 1);
