@@ -5,6 +5,7 @@ on a line stand for any lines. A line `% NAME = SOURCE :: OLD :: NEW` makes a fi
 in the place of OLD, which stands there once; `\\n` is a line end, and without OLD, NEW is put behind SOURCE. In words and
 in files `N*(TEXT)` stands for N times TEXT.
 """
+import os
 import pathlib
 import re
 import shutil
@@ -14,6 +15,8 @@ import tempfile
 
 CHECKS = pathlib.Path(__file__).resolve().parent
 PROGRAM = CHECKS.parent / "toarnyk"
+# these runs are about the program's own text; checks/front is about what is added to it
+os.environ["TOARNYK_HINTS"] = "no"
 
 
 def repeated(text):

@@ -10,14 +10,9 @@ use Rattle.atomic_table.proofs.Lists.{at_set, set_else, at_longer}
 use Rattle.best_word.specs.declared.part.Part.TheVariants.{First, Other, Spent}
 use Rattle.res_base.specs.Lists.{Member}
 use Rattle.res_base.proofs.ListLemmas.{member_left, member_right, member_split, member_last, member_one}
-use Rattle.best_word.proofs.PartLemmas.{each_set, each_snoc, keeps as parts_keep, splits as parts_split, joins as parts_join, alone as parts_alone}
+use Rattle.best_word.proofs.PartLemmas.{set_at, first-spent, begins as parts_begin, stays as parts_stay, each_set, each_snoc, keeps as parts_keep, splits as parts_split, joins as parts_join, alone as parts_alone}
 use Rattle.best_word.specs.declared.word.View.{View}
 use Rattle.best_word.specs.Word.{newcomer, one_more_out, together, saw_more, blank_more, kept_more, KeptBy, Least, Holds, SeesRank, SeesNone, Loaded, Offered}
-
-set_at : {A : Type 0} (l : List A) (i : ℕ) (a b : A) → get_elem? l i ≡ some b → get_elem? (set l i a) i ≡ some a
-set_at [] i a b e = absurd (some-ne-none b (sym e))
-set_at (x ∷ xs) zero a b e = refl
-set_at (x ∷ xs) (suc i) a b e = set_at xs i a b e
 
 none_kept : (r : ℕ) (xs : List ℕ) → xs ≡ [] → Member r xs → ⊥
 none_kept r xs e m = subst (λ l. Member r l) e m
@@ -30,6 +25,23 @@ least_of_two : (n k : ℕ) → (min n k ≡ n) ⊎ (min n k ≡ k)
 least_of_two n k = dite (dec_le n k) (λ le. inl (omega arith)) (λ not. let l = lt_of_not-le not in inr (omega arith))
 
 module _ {J : Type 0} (legal : ℕ → Type 0) where
+  only_one : (port : ℕ) (v w : View J) → get_elem? (v ∷ []) port ≡ some w → w ≡ v
+  only_one zero v w at = sym (some-injective v w at)
+  only_one (suc k) v w at = absurd (some-ne-none w (sym at))
+
+  -- the rule at first, when the word stands for no rank
+  pub opens : (n : ℕ) → 2 ^ 63 ≤ n → Least {J = J} legal n (newcomer First ∷ [])
+  opens n high =
+      let v : View J = newcomer First in record {
+        ranks = λ port w at r i. absurd (subst (λ (x : View J). Member r x.kept) (only_one port v w at) i);
+        low = λ port w at r i. absurd (subst (λ (x : View J). Member r x.kept) (only_one port v w at) i);
+        stands = λ s. absurd (omega (arith, s, high));
+        seen = λ port w at r i. absurd (subst (λ (x : View J). Member r x.saw) (only_one port v w at) i);
+        first = (0, v, refl, refl);
+        parts = parts_begin (λ (u : View J). u.part) (λ (u : View J). u.out) v refl refl;
+        spent = λ port w at g. absurd (first-spent (sym (ap (λ (x : View J). x.part) (only_one port v w at)) ∙ g));
+      }
+
   kept_there : (views : List (View J)) (port : ℕ) (v w : View J) (r : ℕ) → get_elem? views port ≡ some v → ((s : ℕ) → Member s v.kept → Member s w.kept) → KeptBy views r → KeptBy (set views port w) r
   kept_there views port v w r at more k = dite (ℕ_discrete k.0 port)
       (λ e. let same : v ≡ k.1 = some-injective v k.1 (sym at ∙ (sym (ap (λ p. get_elem? views p) e) ∙ k.2)) in (port, w, set_at views port w v at, more r (subst (λ (x : View J). Member r x.kept) (sym same) k.3)))
@@ -38,30 +50,31 @@ module _ {J : Type 0} (legal : ℕ → Type 0) where
   -- a step of one view, where the word becomes m
   goes_on : (n m : ℕ) (views : List (View J)) (port : ℕ) (v w : View J) → get_elem? views port ≡ some v → Least legal n views → w.part ≡ v.part → w.out ≡ v.out
       → ((r : ℕ) → Member r w.kept → Member r v.kept ⊎ (legal r × (m ≤ r))) → m ≤ n → ((r : ℕ) → Member r v.kept → Member r w.kept) → (m < 2 ^ 63 → (m ≡ n) ⊎ Member m w.kept)
-      → ((r : ℕ) → Member r w.saw → Member r v.saw ⊎ KeptBy views r) → (w.part ≡ Spent → w.kept ≡ []) → Least legal m (set views port w)
+      → ((r : ℕ) → Member r w.saw → Member r v.saw ⊎ KeptBy views r) → (w.part ≡ Spent → (w.kept ≡ []) × (w.saw ≡ [])) → Least legal m (set views port w)
   goes_on n m views port v w at h part out kept less more now saw gone =
       let up : (r : ℕ) → KeptBy views r → KeptBy (set views port w) r = λ r k. kept_there views port v w r at more k in record {
         ranks = each_set (λ j u. (r : ℕ) → Member r u.kept → legal r) views port w (λ r x. ⊎_elim (λ o. h.ranks port v at r o) (λ t. t.0) (kept r x)) (λ j u _ e. h.ranks j u e);
         low = each_set (λ j u. (r : ℕ) → Member r u.kept → m ≤ r) views port w (λ r x. ⊎_elim (λ o. omega (arith, less, h.low port v at r o)) (λ t. t.1) (kept r x)) (λ j u _ e r x. omega (arith, less, h.low j u e r x));
         stands = λ s. ⊎_elim (λ (e : m ≡ n). subst (KeptBy (set views port w)) (sym e) (up n (h.stands (omega arith)))) (λ x. (port, w, set_at views port w v at, x)) (now s);
         seen = each_set (λ j u. (r : ℕ) → Member r u.saw → KeptBy (set views port w) r) views port w (λ r x. ⊎_elim (λ o. up r (h.seen port v at r o)) (λ k. up r k) (saw r x)) (λ j u _ e r x. up r (h.seen j u e r x));
+        first = parts_stay (λ (u : View J). u.part) (λ (u : View J). u.out) views port v w at (λ f. part ∙ f) h.first;
         parts = parts_keep (λ (u : View J). u.part) (λ (u : View J). u.out) views port v w at part out h.parts;
-        spent = each_set (λ j u. u.part ≡ Spent → u.kept ≡ []) views port w gone (λ j u _ e. h.spent j u e);
+        spent = each_set (λ j u. u.part ≡ Spent → (u.kept ≡ []) × (u.saw ≡ [])) views port w gone (λ j u _ e. h.spent j u e);
       }
 
   -- what a first view with none out knows
   alone_kept : (n : ℕ) (views : List (View J)) (port : ℕ) (v : View J) → get_elem? views port ≡ some v → Least legal n views → v.part ≡ First → v.out ≡ 0 → (r : ℕ) → KeptBy views r → Member r v.kept
   alone_kept n views port v at h first none r k = dite (ℕ_discrete k.0 port)
       (λ e. let same : v ≡ k.1 = some-injective v k.1 (sym at ∙ (sym (ap (λ p. get_elem? views p) e) ∙ k.2)) in subst (λ (x : View J). Member r x.kept) (sym same) k.3)
-      (λ ne. absurd (none_kept r k.1.kept (h.spent k.0 k.1 k.2 (parts_alone (λ (u : View J). u.part) (λ (u : View J). u.out) views port v at first none h.parts k.0 k.1 ne k.2)) k.3))
+      (λ ne. absurd (none_kept r k.1.kept (h.spent k.0 k.1 k.2 (parts_alone (λ (u : View J). u.part) (λ (u : View J). u.out) views port v at first none h.parts k.0 k.1 ne k.2)).0 k.3))
 
   below : (n : ℕ) (views : List (View J)) → Least legal n views → (r : ℕ) → KeptBy views r → n ≤ r
   below n views h r k = h.low k.0 k.1 k.2 r k.3
 
-  loads_rank : (n : ℕ) (views : List (View J)) (port : ℕ) (v : View J) → get_elem? views port ≡ some v → Least legal n views → n < 2 ^ 63 → Least legal n (set views port (saw_more v n)) × SeesRank v n (saw_more v n)
-  loads_rank n views port v at h low = (
+  loads_rank : (n : ℕ) (views : List (View J)) (port : ℕ) (v : View J) → get_elem? views port ≡ some v → v.part ≢ Spent → Least legal n views → n < 2 ^ 63 → Least legal n (set views port (saw_more v n)) × SeesRank v n (saw_more v n)
+  loads_rank n views port v at live h low = (
     goes_on n n views port v (saw_more v n) at h refl refl (λ r x. inl x) (omega arith) (λ r x. x) (λ s. inl refl)
-        (λ r x. ⊎_elim (λ o. inl o) (λ (y : Member r (n ∷ [])). inr (subst (KeptBy views) (sym (member_one r n y)) (h.stands low))) (member_split r v.saw (n ∷ []) x)) (h.spent port v at),
+        (λ r x. ⊎_elim (λ o. inl o) (λ (y : Member r (n ∷ [])). inr (subst (KeptBy views) (sym (member_one r n y)) (h.stands low))) (member_split r v.saw (n ∷ []) x)) (λ gone. absurd (live gone)),
     (
       refl,
       h.low port v at,
@@ -78,8 +91,8 @@ module _ {J : Type 0} (legal : ℕ → Type 0) where
         (refl, all_none v.kept (λ r x. never r (port, v, at, x)), all_none v.saw (λ r x. never r (h.seen port v at r x))),
       )
 
-  pub loads : ((r : ℕ) → legal r → r < 2 ^ 63) → (slots id : ℕ) (me : Me (Unit {0}) (View J)) → Allows (Holds legal) slots id me 0 (λ n. n) (Loaded (step slots 0 0 0 no_value) me)
-  loads small slots id me s h homes at bound =
+  pub loads : ((r : ℕ) → legal r → r < 2 ^ 63) → (slots id : ℕ) (me : Me (Unit {0}) (View J)) → me.0.part ≢ Spent → Allows (Holds legal) slots id me 0 (λ n. n) (Loaded (step slots 0 0 0 no_value) me)
+  loads small slots id me live s h homes at bound =
       let st : Step (Unit {0}) = step slots 0 0 0 no_value in
       let n = h.0 in
       let found : slice_index s.words 0 ≡ n = ap (λ ws. slice_index ws 0) h.1 in
@@ -87,7 +100,7 @@ module _ {J : Type 0} (legal : ℕ → Type 0) where
       dite (dec_le (2 ^ 63) n)
       (λ high. let t = loads_none small n s.views id me.0 at h.2 high in
       (blank_more me.0, keeps, tt, (n, words, t.0), subst (λ (k : ℕ). Loaded st me k (blank_more me.0, me.1)) (sym found) ((λ low. absurd (omega arith)), (λ _. t.1), refl)))
-      (λ not. let low : n < 2 ^ 63 = lt_of_not-le not in let t = loads_rank n s.views id me.0 at h.2 low in
+      (λ not. let low : n < 2 ^ 63 = lt_of_not-le not in let t = loads_rank n s.views id me.0 at live h.2 low in
       (saw_more me.0 n, keeps, tt, (n, words, t.0), subst (λ (k : ℕ). Loaded st me k (saw_more me.0 n, me.1)) (sym found) ((λ _. t.1), (λ high. absurd (omega arith)), refl)))
 
   pub offers : (slots id : ℕ) (me : Me (Unit {0}) (View J)) (k : ℕ) → legal k → me.0.part ≢ Spent → Allows (Holds legal) slots id me 0 (λ n. min n k) (Offered (step slots 0 k 0 no_value) me)
@@ -109,8 +122,9 @@ module _ {J : Type 0} (legal : ℕ → Type 0) where
         low = each_snoc (λ u. (r : ℕ) → Member r u.kept → n ≤ r) vs new (λ r x. absurd x) (each_set (λ j u. (r : ℕ) → Member r u.kept → n ≤ r) views port l (h.low port v at) (λ j u _ e. h.low j u e));
         stands = λ s. up n (h.stands s);
         seen = each_snoc (λ u. (r : ℕ) → Member r u.saw → KeptBy (vs ++ new ∷ []) r) vs new (λ r x. absurd x) (each_set (λ j u. (r : ℕ) → Member r u.saw → KeptBy (vs ++ new ∷ []) r) views port l (λ r x. up r (h.seen port v at r x)) (λ j u _ e r x. up r (h.seen j u e r x)));
+        first = let k = parts_stay (λ (u : View J). u.part) (λ (u : View J). u.out) views port v l at (λ f. first) h.first in (k.0, k.1, at_longer vs (new ∷ []) k.0 k.1 k.2, k.3);
         parts = parts_split (λ (u : View J). u.part) (λ (u : View J). u.out) views port v l new at first first refl refl refl h.parts;
-        spent = each_snoc (λ u. u.part ≡ Spent → u.kept ≡ []) vs new (λ _. refl) (each_set (λ j u. u.part ≡ Spent → u.kept ≡ []) views port l (h.spent port v at) (λ j u _ e. h.spent j u e));
+        spent = each_snoc (λ u. u.part ≡ Spent → (u.kept ≡ []) × (u.saw ≡ [])) vs new (λ _. (refl, refl)) (each_set (λ j u. u.part ≡ Spent → (u.kept ≡ []) × (u.saw ≡ [])) views port l (h.spent port v at) (λ j u _ e. h.spent j u e));
       }
 
   pub splits : (id : ℕ) (v : View J) → v.part ≡ First → Splits (Holds legal) id v (one_more_out v) (newcomer Other)
@@ -136,13 +150,18 @@ module _ {J : Type 0} (legal : ℕ → Type 0) where
         seen = each_set (λ j y. (r : ℕ) → Member r y.saw → KeptBy (set vs other gone) r) vs other gone (λ r x. absurd x)
             (λ j y _ e. each_set (λ j y. (r : ℕ) → Member r y.saw → KeptBy (set vs other gone) r) views port b
             (λ r x. ⊎_elim (λ a. up r (h.seen port v at r a)) (λ c. up r (h.seen other u was r c)) (member_split r v.saw u.saw x)) (λ j y _ e r x. up r (h.seen j y e r x)) j y e);
+        first = parts_stay (λ (y : View J). y.part) (λ (y : View J). y.out) vs other u gone there (λ f. absurd (not_other (sym f ∙ o)))
+            (parts_stay (λ (y : View J). y.part) (λ (y : View J). y.out) views port v b at (λ f. first) h.first);
         parts = parts_join (λ (y : View J). y.part) (λ (y : View J). y.out) views port other v u b gone at first apart there o first refl refl refl h.parts;
-        spent = each_set (λ j y. y.part ≡ Spent → y.kept ≡ []) vs other gone (λ _. refl)
-            (λ j y _ e. each_set (λ j y. y.part ≡ Spent → y.kept ≡ []) views port b (λ g. absurd (not_spent (sym first ∙ g))) (λ j y _ e. h.spent j y e) j y e);
+        spent = each_set (λ j y. y.part ≡ Spent → (y.kept ≡ []) × (y.saw ≡ [])) vs other gone (λ _. (refl, refl))
+            (λ j y _ e. each_set (λ j y. y.part ≡ Spent → (y.kept ≡ []) × (y.saw ≡ [])) views port b (λ g. absurd (not_spent (sym first ∙ g))) (λ j y _ e. h.spent j y e) j y e);
       }
     where
       not_spent : First ≡ Spent → ⊥
       not_spent e = cc
+
+      not_other : First ≡ Other → ⊥
+      not_other e = cc
 
   pub joins : (id : ℕ) (v : View J) (other : ℕ) (u : View J) → v.part ≡ First → u.part ≡ Other → Joins (Holds legal) id v other u (together v u) (newcomer Spent)
   joins id v other u first o s h at apart there = (h.0, h.1, joins_keep h.0 s.views id other v u at first apart there o h.2)

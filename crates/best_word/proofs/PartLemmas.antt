@@ -2,7 +2,9 @@
 use Rattle.std.proofs.Common.{◌≡◌, ◌≢◌, ℕ, zero, suc, ◌+◌, ◌-◌, ◌≤◌, List, [], ◌∷◌, ◌++◌, set, sym, refl, ap, ◌∙◌, subst, ⊎_elim, arith}
 use mathlib.Core.Option.{some, some-ne-none, some-injective}
 use lib.ListN.{get_elem?}
-use Rattle.atomic_table.proofs.Lists.{at_set, at_snoc}
+use mathlib.Core.Logic.{dite}
+use native.Mathlib.Decide.{ℕ_discrete}
+use Rattle.atomic_table.proofs.Lists.{at_set, at_snoc, set_else}
 use Rattle.best_word.specs.declared.part.Part.{Part}
 use Rattle.best_word.specs.declared.part.Part.TheVariants.{First, Other, Spent}
 use Rattle.best_word.specs.Parts.{others, OneFirst}
@@ -16,6 +18,11 @@ each_set {V} F views port w mine rest j u e = ⊎_elim (λ (x : (j ≡ port) × 
 
 pub each_snoc : {V : Type 0} (F : V → Type 0) (views : List V) (w : V) → F w → ((j : ℕ) (u : V) → get_elem? views j ≡ some u → F u) → (j : ℕ) (u : V) → get_elem? (views ++ w ∷ []) j ≡ some u → F u
 each_snoc F views w mine rest j u e = ⊎_elim (λ x. rest j u x) (λ (x : w ≡ u). subst F x mine) (at_snoc views w u j e)
+
+pub set_at : {A : Type 0} (l : List A) (i : ℕ) (a b : A) → get_elem? l i ≡ some b → get_elem? (set l i a) i ≡ some a
+set_at [] i a b e = absurd (some-ne-none b (sym e))
+set_at (x ∷ xs) zero a b e = refl
+set_at (x ∷ xs) (suc i) a b e = set_at xs i a b e
 
 pub first-other : First ≢ Other
 first-other e = cc
@@ -42,6 +49,14 @@ module _ {V : Type 0} (part : V → Part) (out : V → ℕ) where
       only_of : (port : ℕ) (u : V) → get_elem? (v ∷ []) port ≡ some u → part u ≢ First → out u ≡ 0
       only_of zero u e f = absurd (f (subst (λ (x : V). part x ≡ First) (some-injective v u e) is))
       only_of (suc k) u e f = absurd (some-ne-none u (sym e))
+
+  -- the first view is still there, where a view that was first becomes one that is
+  pub stays : (views : List V) (port : ℕ) (v w : V) → get_elem? views port ≡ some v → (part v ≡ First → part w ≡ First) → (seat : ℕ) × (x : V) × (get_elem? views seat ≡ some x) × (part x ≡ First) → (seat : ℕ) × (x : V) × (get_elem? (set views port w) seat ≡ some x) × (part x ≡ First)
+  stays views port v w at f k = dite (ℕ_discrete k.0 port)
+      (λ e.
+      let same : v ≡ k.1 = some-injective v k.1 (sym at ∙ (sym (ap (λ p. get_elem? views p) e) ∙ k.2)) in
+      (port, w, set_at views port w v at, f (ap part same ∙ k.3)))
+      (λ n. (k.0, k.1, set_else views port k.0 w n ∙ k.2, k.3))
 
   -- a step that leaves a view's part
   pub keeps : (views : List V) (port : ℕ) (v w : V) → get_elem? views port ≡ some v → part w ≡ part v → out w ≡ out v → OneFirst part out views → OneFirst part out (set views port w)

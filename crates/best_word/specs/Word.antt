@@ -35,14 +35,16 @@ module _ {J : Type 0} where
   abbrev pub KeptBy : List (View J) → ℕ → Type 0
   KeptBy views r = (port : ℕ) × (v : View J) × (get_elem? views port ≡ some v) × Member r v.kept
 
-  -- The word is the least rank that some view kept, and each rank that was seen was kept
+  -- Each kept rank is legal; the word is the least rank that some view kept, and stands for no rank where none was kept;
+  -- each rank that was seen was kept; one view is first and counts those that are out; a view that was taken back has empty lists
   pub record Least (legal : ℕ → Type 0) (n : ℕ) (views : List (View J)) : Type 0 where
     pub ranks : (port : ℕ) (v : View J) → get_elem? views port ≡ some v → (r : ℕ) → Member r v.kept → legal r
     pub low : (port : ℕ) (v : View J) → get_elem? views port ≡ some v → (r : ℕ) → Member r v.kept → n ≤ r
     pub stands : n < 2 ^ 63 → KeptBy views n
     pub seen : (port : ℕ) (v : View J) → get_elem? views port ≡ some v → (r : ℕ) → Member r v.saw → KeptBy views r
+    pub first : (port : ℕ) × (v : View J) × (get_elem? views port ≡ some v) × (v.part ≡ First)
     pub parts : OneFirst (λ (v : View J). v.part) (λ v. v.out) views
-    pub spent : (port : ℕ) (v : View J) → get_elem? views port ≡ some v → v.part ≡ Spent → v.kept ≡ []
+    pub spent : (port : ℕ) (v : View J) → get_elem? views port ≡ some v → v.part ≡ Spent → (v.kept ≡ []) × (v.saw ≡ [])
 
   abbrev pub Holds : (ℕ → Type 0) → State (Unit {0}) (View J) → Type 0
   Holds legal s = (n : ℕ) × (s.words ≡ n ∷ []) × Least legal n s.views

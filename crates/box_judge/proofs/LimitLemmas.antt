@@ -6,7 +6,7 @@ use Rattle.box_split.specs.Boxes.{IsBox, highs, lows}
 use Rattle.choice_rank.specs.declared.variable.VarShape.{VarShape}
 use Rattle.problem.specs.declared.parts.ProblemParts.{ProblemParts}
 use Rattle.res_model.specs.declared.clock.ClockBox.{ClockBox}
-use Rattle.res_model.specs.Ranges.{IsClockBox, shown_limit}
+use Rattle.clock_limits.specs.Ranges.{IsClockBox, shown_limit}
 use Rattle.box_rules.specs.Judged.{IsWhole, clock_box}
 use Rattle.box_rules.proofs.ContestLemmas.{as_many_values}
 use Rattle.box_rules.proofs.WholeLemmas.{is_clock_box, sizes}

@@ -10,7 +10,7 @@ use Rattle.problem.specs.Problem.{HaveValues}
 use Rattle.res_model.specs.declared.table.PinUse.{PinUse}
 use Rattle.res_model.specs.declared.table.TableParts.{TableParts}
 use Rattle.res_model.specs.Clock.{IsBetween}
-use Rattle.res_model.specs.Ranges.{AreInRange, values_at}
+use Rattle.clock_limits.specs.Ranges.{AreInRange, values_at}
 use Rattle.search_api.specs.Meaning.{IsLawful}
 use Rattle.box_rules.specs.Judged.{HasResources, IsReady, IsWhole, pin_meaning, whole_meaning}
 use Rattle.box_rules.proofs.LawLemmas as laws

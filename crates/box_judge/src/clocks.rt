@@ -1,6 +1,6 @@
 ghost use Rattle.std.specs.Prelude.{◌≡◌, ◌≢◌, IsOkAnd, take};
 ghost use Rattle.search_api.proofs.ShapeLemmas.{shape_prop};
-ghost use Rattle.res_model.specs.Ranges.{shown_limit};
+ghost use Rattle.clock_limits.specs.Ranges.{shown_limit};
 ghost use Rattle.box_rules.specs.Judged.{IsWhole, clock_box, whole_meaning, whole_verdict};
 ghost use Rattle.box_split.specs.Boxes.{IsBox};
 ghost use Rattle.box_split.specs.BoxIn.{box_in};

@@ -9,7 +9,7 @@ use Rattle.problem.specs.ClockValues.{clock_at, clock_value, source_of}
 use Rattle.problem.specs.Problem.{HaveValues}
 use Rattle.res_model.specs.declared.clock.ClockBox.{ClockBox}
 use Rattle.res_model.specs.Clock.{IsBetween}
-use Rattle.res_model.specs.Ranges.{AreInRange, IsIn, code_of, run_of, values_at}
+use Rattle.clock_limits.specs.Ranges.{AreInRange, IsIn, code_of, run_of, values_at}
 use Rattle.box_rules.proofs.ContestLemmas.{range_at, range_long}
 use Rattle.box_rules.proofs.CountLemmas.{both}
 

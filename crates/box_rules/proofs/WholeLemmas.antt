@@ -15,7 +15,7 @@ use Rattle.problem.specs.Problem.{HaveValues}
 use Rattle.res_model.specs.declared.clock.ClockChoice.{ClockChoice}
 use Rattle.res_model.specs.Limits.{broken_limit, meets_limit}
 use Rattle.res_model.specs.Placement.{fits, uses_at}
-use Rattle.res_model.specs.Ranges.{IsClockBox, IsIn, IsOnePlace, shows_limit, shown_limit}
+use Rattle.clock_limits.specs.Ranges.{IsClockBox, IsIn, IsOnePlace, shows_limit, shown_limit}
 use Rattle.search_api.specs.declared.verdict.Class.TheVariants.{Pins, Exti}
 use Rattle.search_api.specs.declared.verdict.Reason.{Reason}
 use Rattle.search_api.specs.declared.verdict.Reason.TheVariants.{Hall, Limit}

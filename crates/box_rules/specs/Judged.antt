@@ -9,7 +9,7 @@ use Rattle.choice_rank.specs.Choices.{IsShape}
 use Rattle.problem.specs.Meets.{meets}
 use Rattle.problem.specs.Problem.{HaveValues, IsClock, are_alike}
 use Rattle.res_model.specs.Clock.{AreFacts}
-use Rattle.res_model.specs.Ranges.{shows_limit, shown_limit}
+use Rattle.clock_limits.specs.Ranges.{shows_limit, shown_limit}
 use Rattle.res_model.specs.declared.clock.ClockBox.{ClockBox}
 use Rattle.res_model.specs.declared.table.PinUse.{PinUse}
 use Rattle.res_model.specs.declared.table.TableParts.{TableParts}

@@ -17,7 +17,7 @@ use std::alloc::Global;
 /// end is refused too. Where a line is due and the text has come to its end, the refusal names the
 /// number after the last line's.
 pub fn read_c(alloc: Global, text: &[u8]) -> Result<Vec<Op>, CFault>
-    requires { length text.now + 1 < 2 ^ 32 }
+    requires { length text.now < 2 ^ 32 }
     ensures read { IfOk result (λ ops. Reads text.now (Ok ops.items)) }
     ensures refused { IfErr result (Refuses text.now) }
 {

@@ -5,8 +5,8 @@ use Rattle.case_rules.specs.CaseProject.{case_lines, case_project}
 use Rattle.case_rules.specs.CaseTable.{case_table, table_for}
 use Rattle.case_rules.specs.Options.{case_opts}
 use Rattle.case_rules.proofs.OnLiterals.{project_text_on_literals, table_on_literals, lines_on_literals, project_on_literals, lines_reader_on_literals, project_reader_on_literals}
-use Rattle.res_model.specs.Lines.{ioc_of}
-use Rattle.res_model.specs.Project.{project_of}
+use Rattle.ioc_text.specs.Lines.{ioc_of}
+use Rattle.ioc_project.specs.Project.{project_of}
 
 pub short : length project_text ≤ 67108864
 unfolding project_text_on_literals

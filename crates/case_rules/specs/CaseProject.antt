@@ -2,7 +2,7 @@
 use Rattle.std.specs.Prelude.{ℕ, zero, suc, ◌+◌, ◌*◌, List, [], ◌∷◌, ◌++◌, true, false, Some, None, codes, decimal}
 use Rattle.big_case.specs.Case.{pin, signal_name}
 use Rattle.case_rules.specs.CaseTable.{listed}
-use Rattle.res_model.specs.declared.line.Line.{Line}
+use Rattle.ioc_text.specs.declared.line.Line.{Line}
 use Rattle.res_model.specs.declared.project.Home.{Home}
 use Rattle.res_model.specs.declared.project.Project.{Project}
 use Rattle.res_model.specs.declared.project.Pull.TheVariants.{None as NoPull}

@@ -6,9 +6,9 @@ ghost use Rattle.case_rules.specs.CaseProject.{case_lines, case_project};
 ghost use Rattle.case_rules.specs.CaseTable.{case_table};
 ghost use Rattle.case_rules.specs.Options.{case_opts};
 ghost use Rattle.choice_rank.specs.Choices.{IsNarrow};
-ghost use Rattle.res_model.specs.Lines.{ioc_of};
-ghost use Rattle.res_model.specs.Project.{project_of};
-ghost use Rattle.res_model.specs.Table.{tables_of};
+ghost use Rattle.ioc_text.specs.Lines.{ioc_of};
+ghost use Rattle.ioc_project.specs.Project.{project_of};
+ghost use Rattle.mcu_tables.specs.Table.{tables_of};
 
 /// For every number the readers take the texts of the made case, and this is what they read.
 pub fn texts_are_read()

@@ -12,7 +12,7 @@ use Rattle.res_model.specs.Clock.{hclk_of}
 use Rattle.res_model.specs.Limits.{TestsTell}
 use Rattle.res_model.specs.Placement.{uses_at}
 use Rattle.res_model.specs.Power.{RowCovers, flash_rows, wait_of}
-use Rattle.res_model.specs.Table.{ahb_dividers, apb_dividers, known_scales, pll_dividers}
+use Rattle.res_model.specs.ClockValues.{ahb_dividers, apb_dividers, known_scales, pll_dividers}
 use Rattle.res_model.specs.Valid.{AreDomains, IsValid}
 use Rattle.res_model.specs.declared.clock.ClockChoice.{ClockChoice}
 use Rattle.res_model.specs.declared.project.Signal.{Signal}

@@ -3,7 +3,7 @@ use Rattle.std.proofs.Common.{ℕ, ◌+◌, ◌-◌, ◌<◌, List, length, drop
 use Rattle.res_base.specs.Lists.{Each}
 use Rattle.res_model.specs.declared.clock.ClockBox.{ClockBox}
 use Rattle.res_model.specs.Clock.{IsBetween}
-use Rattle.res_model.specs.Ranges.{AreInRange, IsClockBox, IsRun, allowed, run_of, values_at}
+use Rattle.clock_limits.specs.Ranges.{AreInRange, IsClockBox, IsRun, allowed, run_of, values_at}
 use Rattle.clock_limits.specs.Fair.{IsFair, IsSpread}
 use Rattle.clock_limits.proofs.SpreadLemmas.{each_take, each_drop, least_between, greatest_between}
 

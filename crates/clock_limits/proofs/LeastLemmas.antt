@@ -5,7 +5,7 @@ use Rattle.res_model.specs.declared.clock.Facts.{Facts}
 use Rattle.res_model.specs.declared.table.TableParts.{TableParts}
 use Rattle.std.proofs.lemmas.Bool.Decides.{eqb_tells}
 use Rattle.res_model.specs.Limits.{limits_of, is_met, first_broken, broken_limit}
-use Rattle.res_model.specs.Ranges.{Allowed, allowed, limits_over, shows_limit}
+use Rattle.clock_limits.specs.Ranges.{Allowed, allowed, limits_over, shows_limit}
 use Rattle.clock_limits.specs.Laws.{IsLeastBroken, BrokenIsLeast, ShownIsLeast}
 
 -- numbers that ascend from a least one

@@ -3,7 +3,7 @@ use Rattle.std.proofs.Common.{◌≡◌, ℕ, ◌+◌, ◌*◌, ◌<◌, Bool, t
 use Rattle.std.proofs.lemmas.Nat.{mul-le}
 use Rattle.res_base.specs.Fraction.{Fraction, IsAtMost, at_most, whole, times, over}
 use Rattle.res_base.specs.Lists.{Member}
-use Rattle.res_model.specs.Table.{hsi}
+use Rattle.res_model.specs.ClockValues.{hsi}
 use Rattle.res_model.specs.declared.clock.ClockChoice.{ClockChoice}
 use Rattle.res_model.specs.declared.clock.Facts.{Facts}
 use Rattle.res_model.specs.declared.clock.Range.{Range}
@@ -11,7 +11,7 @@ use Rattle.res_model.specs.declared.clock.Src.{Src}
 use Rattle.res_model.specs.declared.clock.Src.TheVariants.{Hsi, Hse, Pll}
 use Rattle.res_model.specs.Clock.{output, pll_input, vco_in_of, vco_of, system_output_of, clk48_of, sysclk_of, hclk_of, pclk1_of, pclk2_of}
 use Rattle.res_model.specs.Limits.{is_as_wished, is_equal}
-use Rattle.res_model.specs.Ranges.{Allowed, IsAllowed, IsWithin, exactly, joined, divided, multiplied, output_range, with_outputs, outputs, code_of, least_of, greatest_of, has, narrowed, input_range, vco_in_range, vco_range, system_output_range, clk48_range, sysclk_range, hclk_reach, hclk_range, pclk1_range, pclk2_range}
+use Rattle.clock_limits.specs.Ranges.{Allowed, IsAllowed, IsWithin, exactly, joined, divided, multiplied, output_range, with_outputs, outputs, code_of, least_of, greatest_of, has, narrowed, input_range, vco_in_range, vco_range, system_output_range, clk48_range, sysclk_range, hclk_reach, hclk_range, pclk1_range, pclk2_range}
 use Rattle.clock_limits.specs.Fair.{IsFair, IsSpread}
 use Rattle.clock_limits.proofs.FractionLemmas.{fact_of, other_way, same_is_at_most, times_mono, over_mono, at_most_trans, and_left, and_right}
 use Rattle.clock_limits.proofs.SpreadLemmas.{least_each, greatest_each}

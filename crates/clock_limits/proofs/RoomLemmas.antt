@@ -2,7 +2,7 @@
 use Rattle.std.proofs.Common.{◌≡◌}
 use Rattle.res_model.specs.declared.clock.Facts.{Facts}
 use Rattle.res_model.specs.declared.table.TableParts.{TableParts}
-use Rattle.res_model.specs.Ranges.{Allowed, limits_over, vco_in_range, vco_range, clk48_range, sysclk_range, hclk_reach, hclk_range, pclk1_range, pclk2_range}
+use Rattle.clock_limits.specs.Ranges.{Allowed, limits_over, vco_in_range, vco_range, clk48_range, sysclk_range, hclk_reach, hclk_range, pclk1_range, pclk2_range}
 use Rattle.clock_limits.specs.declared.ranges.Ranges.{Ranges}
 use Rattle.clock_limits.specs.Room.{room_over, room_by}
 

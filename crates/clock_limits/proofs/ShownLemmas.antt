@@ -13,7 +13,7 @@ use Rattle.res_model.specs.declared.table.TableParts.{TableParts}
 use Rattle.res_model.specs.Clock.{is_hse, is_pll, pll_used, hse_used, vco_in_of, vco_of, clk48_of, sysclk_of, hclk_of, pclk1_of, pclk2_of}
 use Rattle.res_model.specs.Limits.{where_so, are_within, is_equal, is_as_wished, is_fed, mhz_48, limits_of, is_met, meets_limit}
 use Rattle.res_model.specs.Power.{flash_rows, is_covered_by, scale_limit, is_within_max}
-use Rattle.res_model.specs.Ranges.{Allowed, allowed, IsAllowed, IsWithin, code_of, sure_pll, sure_hse, overlaps, has, has_wish, vco_in_range, vco_range, clk48_range, sysclk_range, hclk_reach, hclk_range, pclk1_range, pclk2_range, limits_over, stands_alone}
+use Rattle.clock_limits.specs.Ranges.{Allowed, allowed, IsAllowed, IsWithin, code_of, sure_pll, sure_hse, overlaps, has, has_wish, vco_in_range, vco_range, clk48_range, sysclk_range, hclk_reach, hclk_range, pclk1_range, pclk2_range, limits_over, stands_alone}
 use Rattle.clock_limits.specs.Fair.{IsFair}
 use Rattle.clock_limits.specs.Laws.{ShownIsBroken, ShownAloneIsBroken}
 use Rattle.clock_limits.proofs.FairLemmas.{box_is_fair}

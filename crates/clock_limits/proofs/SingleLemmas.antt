@@ -4,7 +4,7 @@ use Rattle.std.specs.List.{list_any}
 use Rattle.res_base.specs.Fraction.{Fraction, IsAtMost, at_most, whole, over}
 use Rattle.res_base.specs.Lists.{Member}
 use Rattle.res_base.proofs.ListLemmas.{member_one}
-use Rattle.res_model.specs.Table.{hsi}
+use Rattle.res_model.specs.ClockValues.{hsi}
 use Rattle.res_model.specs.declared.clock.ClockBox.{ClockBox}
 use Rattle.res_model.specs.declared.clock.ClockChoice.{ClockChoice}
 use Rattle.res_model.specs.declared.clock.Facts.{Facts}
@@ -15,7 +15,7 @@ use Rattle.res_model.specs.declared.table.TableParts.{TableParts}
 use Rattle.res_model.specs.Clock.{output, is_hse, is_pll, pll_used, hse_used, pll_input, vco_in_of, vco_of, system_output_of, clk48_of, sysclk_of, hclk_of, pclk1_of, pclk2_of}
 use Rattle.res_model.specs.Limits.{where_so, are_within, is_equal, is_as_wished, is_fed, mhz_48, limits_of, first_broken}
 use Rattle.res_model.specs.Power.{flash_rows, is_covered_by, is_covered, scale_limit, is_within_max}
-use Rattle.res_model.specs.Ranges.{IsClockBox, IsOnePlace, IsRun, Allowed, allowed, IsIn, code_of, run_of, values_at, exactly, divided, multiplied, output_range, sure_pll, sure_hse, overlaps, has, has_wish, narrowed, input_range, vco_in_range, vco_range, system_output_range, clk48_range, sysclk_range, hclk_reach, hclk_range, pclk1_range, pclk2_range, limits_over}
+use Rattle.clock_limits.specs.Ranges.{IsClockBox, IsOnePlace, IsRun, Allowed, allowed, IsIn, code_of, run_of, values_at, exactly, divided, multiplied, output_range, sure_pll, sure_hse, overlaps, has, has_wish, narrowed, input_range, vco_in_range, vco_range, system_output_range, clk48_range, sysclk_range, hclk_reach, hclk_range, pclk1_range, pclk2_range, limits_over}
 use Rattle.std.proofs.lemmas.Nat.{mul-le}
 use Rattle.clock_limits.specs.Fair.{IsSpread}
 use Rattle.clock_limits.proofs.SpreadLemmas.{least_each}

@@ -2,7 +2,7 @@
 use Rattle.std.proofs.Common.{◌≡◌, ℕ, ◌*◌, ◌^◌, ◌<◌, ◌≤◌, Bool, true, false, cond, nat_eq, List, [], ◌∷◌, sym, subst, arith}
 use Rattle.res_base.specs.Fraction.{Fraction, at_most, whole}
 use Rattle.res_model.specs.declared.clock.Range.{Range}
-use Rattle.res_model.specs.Ranges.{exactly, joined, output_range, with_outputs, outputs}
+use Rattle.clock_limits.specs.Ranges.{exactly, joined, output_range, with_outputs, outputs}
 use Rattle.clock_limits.specs.Fair.{HasSize}
 
 record IsPart (num den : ℕ) (x : Fraction) : Type 0 where

@@ -2,7 +2,7 @@
 use Rattle.std.proofs.Common.{◌≡◌, ℕ, zero, suc, ◌<◌, ◌≤◌, min, max, List, [], ◌∷◌, length, take, drop, get_or, ◌⊎◌, ⊎_elim, refl, subst, arith}
 use Rattle.res_base.specs.Lists.{Each, Member}
 use Rattle.res_model.specs.Clock.{IsBetween}
-use Rattle.res_model.specs.Ranges.{least_from, least_of, greatest_from, greatest_of}
+use Rattle.clock_limits.specs.Ranges.{least_from, least_of, greatest_from, greatest_of}
 
 -- a value more is taken in
 pub least_step : (v w : ℕ) (ws : List ℕ) → least_from (min v w) ws ≡ least_from v (w ∷ ws)

@@ -1,7 +1,7 @@
 -- How large values and nodes are.
 use Rattle.std.specs.Prelude.{ℕ, ◌<◌, ◌≤◌, List, length}
 use Rattle.res_model.specs.Clock.{IsBetween}
-use Rattle.res_model.specs.Ranges.{Allowed, least_of, greatest_of}
+use Rattle.clock_limits.specs.Ranges.{Allowed, least_of, greatest_of}
 use Rattle.res_model.specs.declared.clock.Range.{Range}
 
 -- there are values, within these

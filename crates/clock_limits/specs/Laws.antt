@@ -6,7 +6,7 @@ use Rattle.res_model.specs.declared.clock.Facts.{Facts}
 use Rattle.res_model.specs.declared.table.TableParts.{TableParts}
 use Rattle.res_model.specs.Clock.{IsBetween}
 use Rattle.res_model.specs.Limits.{TestsTell, meets_limit, broken_limit}
-use Rattle.res_model.specs.Ranges.{AreInRange, IsClockBox, IsIn, IsOnePlace, shows_limit, shown_limit, stands_alone}
+use Rattle.clock_limits.specs.Ranges.{AreInRange, IsClockBox, IsIn, IsOnePlace, shows_limit, shown_limit, stands_alone}
 
 -- a limit that is shown for a box is broken by each choice in it, or the wish for HCLK is
 abbrev pub ShownIsBroken : Type 0

@@ -7,7 +7,7 @@ use Rattle.res_model.specs.declared.clock.Range.{Range}
 use Rattle.res_model.specs.declared.table.TableParts.{TableParts}
 use Rattle.res_model.specs.Limits.{where_so, is_fed, mhz_48}
 use Rattle.res_model.specs.Power.{is_covered, scale_limit, is_within_max}
-use Rattle.res_model.specs.Ranges.{Allowed, sure_pll, sure_hse, overlaps, has, has_wish}
+use Rattle.clock_limits.specs.Ranges.{Allowed, sure_pll, sure_hse, overlaps, has, has_wish}
 use Rattle.clock_limits.specs.declared.ranges.Ranges.{Ranges}
 
 -- the limits over ranges that are given

@@ -1,5 +1,5 @@
 -- What borrowed runs of values say.
-use Rattle.res_model.specs.Ranges.{Allowed}
+use Rattle.clock_limits.specs.Ranges.{Allowed}
 use Rattle.clock_limits.specs.declared.runs.Runs.{Runs}
 
 abbrev pub seen : Runs → Allowed

@@ -3,7 +3,7 @@ ghost use Rattle.std.specs.Prelude.{◌≡◌};
 ghost use Rattle.std.specs.List.{list_any};
 ghost use Rattle.res_model.specs.Clock.{AreFacts};
 ghost use Rattle.res_model.specs.Power.{is_within_max, scale_limit};
-ghost use Rattle.res_model.specs.Ranges.{AreInRange, IsClockBox, sure_pll, sure_hse, overlaps, has_wish, limits_over, shown_limit, shows_limit};
+ghost use Rattle.clock_limits.specs.Ranges.{AreInRange, IsClockBox, sure_pll, sure_hse, overlaps, has_wish, limits_over, shown_limit, shows_limit};
 ghost use Rattle.clock_limits.specs.Fair.{IsFair};
 ghost use Rattle.clock_limits.specs.Numbered.{numbered};
 ghost use Rattle.clock_limits.specs.Room.{room_by};

@@ -1,7 +1,7 @@
 //! The ranges of the nodes over a box.
 ghost use Rattle.std.specs.Prelude.{◌≡◌, ◌*◌, ◌<◌, ◌^◌, if◌then◌else◌, length};
 ghost use Rattle.res_base.specs.Fraction.{whole, over, times, at_most};
-ghost use Rattle.res_model.specs.Ranges.{exactly, joined, divided, multiplied, output_range, with_outputs, outputs, has, narrowed, least_of, greatest_of, vco_in_range, vco_range, clk48_range, sysclk_range, hclk_reach, hclk_range, pclk1_range, pclk2_range};
+ghost use Rattle.clock_limits.specs.Ranges.{exactly, joined, divided, multiplied, output_range, with_outputs, outputs, has, narrowed, least_of, greatest_of, vco_in_range, vco_range, clk48_range, sysclk_range, hclk_reach, hclk_range, pclk1_range, pclk2_range};
 ghost use Rattle.clock_limits.specs.Fair.{HasSize, IsFair, IsSpread};
 ghost use Rattle.clock_limits.specs.Runs.{seen};
 

@@ -1,7 +1,7 @@
 //! The values at the positions of a box.
 ghost use Rattle.std.specs.Prelude.{◌≡◌, ◌<◌, ◌==◌, length};
 ghost use Rattle.std.specs.List.{list_all};
-ghost use Rattle.res_model.specs.Ranges.{IsRun, IsClockBox, run_of, allowed, least_of, greatest_of};
+ghost use Rattle.clock_limits.specs.Ranges.{IsRun, IsClockBox, run_of, allowed, least_of, greatest_of};
 ghost use Rattle.clock_limits.specs.Runs.{seen};
 
 use res_base::Items;

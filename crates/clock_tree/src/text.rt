@@ -1,7 +1,7 @@
 //! The text of a choice with its nodes.
 ghost use Rattle.std.specs.Prelude.{◌≡◌, ◌<◌, ◌^◌, ◌++◌, decimal, IfOk, OnOk, string_bytes};
 ghost use Rattle.res_model.specs.Clock.{IsInRange, nodes_of};
-ghost use Rattle.res_model.specs.ClockText.{source_word, source_line, pll_words, pll_line, hse_line, divider_line, node_line, off_line, floor, pll_node_line, choice_lines, first_nodes, last_nodes, wait_word, supply_line, clock_text};
+ghost use Rattle.clock_tree.specs.ClockText.{source_word, source_line, pll_words, pll_line, hse_line, divider_line, node_line, off_line, floor, pll_node_line, choice_lines, first_nodes, last_nodes, wait_word, supply_line, clock_text};
 
 use crate::tree::{hse_used, nodes, pll_used};
 use res_base::{OutOfMemory, Ratio};
@@ -18,7 +18,7 @@ fn source_word(source: Src) -> &'static str
     }
 }
 
-#[tactic(auto, unfolding(res_model::specs::ClockText::source_line))]
+#[tactic(auto, unfolding(crate::specs::ClockText::source_line))]
 fn source_line(alloc: Global, c: &ClockChoice) -> Result<String, AllocError>
     ensures { IfOk result (λ x. string_bytes x ≡ source_line c.now) }
 {
@@ -35,7 +35,7 @@ fn put_number(alloc: Global, line: &mut String, word: &str, n: u64) -> Result<()
     line.push_str(digits.as_str())
 }
 
-#[tactic(auto, unfolding(res_model::specs::ClockText::pll_words))]
+#[tactic(auto, unfolding(crate::specs::ClockText::pll_words))]
 fn pll_words(alloc: Global, c: &ClockChoice) -> Result<String, AllocError>
     ensures { IfOk result (λ x. string_bytes x ≡ pll_words c.now) }
 {
@@ -49,7 +49,7 @@ fn pll_words(alloc: Global, c: &ClockChoice) -> Result<String, AllocError>
     Ok(line)
 }
 
-#[tactic(auto, unfolding(res_model::specs::ClockText::pll_line))]
+#[tactic(auto, unfolding(crate::specs::ClockText::pll_line))]
 fn pll_line(alloc: Global, f: &Facts, c: &ClockChoice) -> Result<String, AllocError>
     ensures { IfOk result (λ x. string_bytes x ≡ pll_line f.now c.now) }
 {
@@ -60,7 +60,7 @@ fn pll_line(alloc: Global, f: &Facts, c: &ClockChoice) -> Result<String, AllocEr
     }
 }
 
-#[tactic(auto, unfolding(res_model::specs::ClockText::hse_line))]
+#[tactic(auto, unfolding(crate::specs::ClockText::hse_line))]
 fn hse_line(alloc: Global, f: &Facts, c: &ClockChoice) -> Result<String, AllocError>
     ensures { IfOk result (λ x. string_bytes x ≡ hse_line f.now c.now) }
 {
@@ -72,7 +72,7 @@ fn hse_line(alloc: Global, f: &Facts, c: &ClockChoice) -> Result<String, AllocEr
     format!(in alloc; "hse {kind} {hertz}\n")
 }
 
-#[tactic(auto, unfolding(res_model::specs::ClockText::divider_line))]
+#[tactic(auto, unfolding(crate::specs::ClockText::divider_line))]
 fn divider_line(alloc: Global, c: &ClockChoice) -> Result<String, AllocError>
     ensures { IfOk result (λ x. string_bytes x ≡ divider_line c.now) }
 {
@@ -86,7 +86,7 @@ fn divider_line(alloc: Global, c: &ClockChoice) -> Result<String, AllocError>
 }
 
 /// A node's name and its hertz.
-#[tactic(auto, unfolding(res_model::specs::ClockText::node_line))]
+#[tactic(auto, unfolding(crate::specs::ClockText::node_line))]
 fn node_line(alloc: Global, name: &str, hertz: u64) -> Result<String, AllocError>
     ensures { IfOk result (λ s. string_bytes s ≡ node_line name.now hertz) }
 {
@@ -96,7 +96,7 @@ fn node_line(alloc: Global, name: &str, hertz: u64) -> Result<String, AllocError
     Ok(line)
 }
 
-#[tactic(auto, unfolding(res_model::specs::ClockText::off_line))]
+#[tactic(auto, unfolding(crate::specs::ClockText::off_line))]
 fn off_line(alloc: Global, name: &str) -> Result<String, AllocError>
     ensures { IfOk result (λ s. string_bytes s ≡ off_line name.now) }
 {
@@ -113,7 +113,7 @@ fn pll_node_line(alloc: Global, name: &str, x: &Option<Ratio>) -> Result<String,
 }
 
 /// The lines of the sources and dividers.
-#[tactic(auto, unfolding(res_model::specs::ClockText::choice_lines))]
+#[tactic(auto, unfolding(crate::specs::ClockText::choice_lines))]
 fn choice_lines(alloc: Global, f: &Facts, c: &ClockChoice) -> Result<String, AllocError>
     ensures { IfOk result (λ x. string_bytes x ≡ choice_lines f.now c.now) }
 {
@@ -128,7 +128,7 @@ fn choice_lines(alloc: Global, f: &Facts, c: &ClockChoice) -> Result<String, All
 }
 
 /// The PLL's nodes, SYSCLK and HCLK.
-#[tactic(auto, unfolding(res_model::specs::ClockText::first_nodes))]
+#[tactic(auto, unfolding(crate::specs::ClockText::first_nodes))]
 fn first_nodes(alloc: Global, n: &Nodes) -> Result<String, AllocError>
     ensures { IfOk result (λ x. string_bytes x ≡ first_nodes n.now) }
 {
@@ -143,7 +143,7 @@ fn first_nodes(alloc: Global, n: &Nodes) -> Result<String, AllocError>
 }
 
 /// The buses, their timers and the 48 MHz output.
-#[tactic(auto, unfolding(res_model::specs::ClockText::last_nodes))]
+#[tactic(auto, unfolding(crate::specs::ClockText::last_nodes))]
 fn last_nodes(alloc: Global, n: &Nodes) -> Result<String, AllocError>
     ensures { IfOk result (λ x. string_bytes x ≡ last_nodes n.now) }
 {
@@ -169,7 +169,7 @@ fn wait_word(alloc: Global, wait: Option<u8>) -> Result<String, AllocError>
 }
 
 /// The supply voltage in millivolts and the wait states.
-#[tactic(auto, unfolding(res_model::specs::ClockText::supply_line))]
+#[tactic(auto, unfolding(crate::specs::ClockText::supply_line))]
 fn supply_line(alloc: Global, vdd: u32, wait: &str) -> Result<String, AllocError>
     ensures { IfOk result (λ x. string_bytes x ≡ supply_line vdd wait.now) }
 {
@@ -182,7 +182,7 @@ fn supply_line(alloc: Global, vdd: u32, wait: &str) -> Result<String, AllocError
 }
 
 /// The clock text of a choice, under wait states.
-#[tactic(auto, unfolding(res_model::specs::ClockText::clock_text))]
+#[tactic(auto, unfolding(crate::specs::ClockText::clock_text))]
 pub fn tree_text(
     alloc: Global,
     f: &Facts,

@@ -1,1 +1,3 @@
-pub use Rattle.res_model.specs.Words
+pub mod Asked
+pub mod UsageFaults
+pub mod Words

@@ -1,11 +1,13 @@
 ghost use Rattle.std.specs.Prelude.{◌≡◌, map, string_bytes, IfOk};
-ghost use Rattle.res_model.specs.UsageFaults.{Gives};
-ghost use Rattle.res_model.specs.Words.{pins_takes, tree_takes, resolve_takes, check_takes, case_takes, pins_of, tree_of, resolve_of, check_of, case_of, command_of, IsWithinLimits};
+ghost use Rattle.cmd_words.specs.UsageFaults.{Gives};
+ghost use Rattle.cmd_words.specs.Words.{pins_takes, tree_takes, resolve_takes, check_takes, case_takes, pins_of, tree_of, resolve_of, check_of, case_of, command_of, IsWithinLimits};
 
+use crate::command::Command;
+use crate::fault::UsageFault;
+use crate::given::Flag;
 use crate::options::{opts_of, read_options, worker_count};
 use crate::values::number_of;
 use res_base::Text;
-use res_model::{Command, Flag, UsageFault};
 use std::alloc::Global;
 
 const PINS: [Flag; 1] = [Flag::Need];
@@ -125,7 +127,7 @@ fn read_case(alloc: Global, words: &[String]) -> Result<Command, UsageFault>
 }
 
 /// The command that words ask for, or the first word, from 1, that the grammar does not allow there.
-#[tactic(auto, unfolding(res_model::specs::Words::command_of))]
+#[tactic(auto, unfolding(crate::specs::Words::command_of))]
 pub fn read_words(alloc: Global, words: &[String]) -> Result<Command, UsageFault>
     ensures gives { Gives (λ c. c) result (command_of (map string_bytes words.now)) }
     ensures limits { IfOk result IsWithinLimits }

@@ -1,8 +1,8 @@
 ghost use Rattle.std.specs.Prelude.{◌≡◌, find};
 ghost use Rattle.std.specs.Str.{bytes_eq};
-ghost use Rattle.res_model.specs.Words.{word_of, is_given};
+ghost use Rattle.cmd_words.specs.Words.{word_of, is_given};
 
-use res_model::{Flag, Given};
+use crate::given::{Flag, Given};
 
 /// How an option is written.
 fn word_of(flag: Flag) -> &'static str

@@ -1,13 +1,18 @@
 //! The words of the command line, read by the grammar of the program.
 #![tactic(auto)]
 
+mod command;
 mod commands;
+mod fault;
 mod flags;
+mod given;
 mod options;
 mod values;
 
+pub use command::Command;
 pub use commands::read_words;
-pub use res_model::{Command, Free, Opts, UsageFault};
+pub use fault::UsageFault;
+pub use res_model::{Free, Opts};
 
 #[cfg(test)]
 mod tests;

@@ -1,11 +1,13 @@
 ghost use Rattle.std.specs.Prelude.{◌≡◌, ◌+◌, ◌^◌, ◌<◌, length, map, string_bytes, OnOk, IfOk};
-ghost use Rattle.res_model.specs.UsageFaults.{Gives};
-ghost use Rattle.res_model.specs.Words.{allowed, word_read, options, opts_of, worker_count, IsLimited, IsWorkers, HasLimits};
+ghost use Rattle.cmd_words.specs.UsageFaults.{Gives};
+ghost use Rattle.cmd_words.specs.Words.{allowed, word_read, options, opts_of, worker_count, IsLimited, IsWorkers, HasLimits};
 
+use crate::fault::UsageFault;
 use crate::flags::{flag_named, is_given};
+use crate::given::{Flag, Given};
 use crate::values::put_value;
 use res_base::Items;
-use res_model::{Flag, Free, Given, Opts, UsageFault};
+use res_model::{Free, Opts};
 use std::alloc::Global;
 
 /// Reads one word: the value that is due, or else an option. Answers the option whose value is due next.

@@ -1,10 +1,12 @@
 ghost use Rattle.std.specs.Prelude.{◌≡◌, ◌≤◌, IfSome, OnOk};
 ghost use Rattle.res_model.specs.Numbers.{number_of, number_up_to};
-ghost use Rattle.res_model.specs.UsageFaults.{Gives};
-ghost use Rattle.res_model.specs.Words.{allowed, free_of, workers_of, with_value, IsWorkers, IsLimited};
+ghost use Rattle.cmd_words.specs.UsageFaults.{Gives};
+ghost use Rattle.cmd_words.specs.Words.{allowed, free_of, workers_of, with_value, IsWorkers, IsLimited};
 
+use crate::fault::UsageFault;
+use crate::given::{Flag, Given};
 use res_base::{Text, parse_dec};
-use res_model::{Flag, Free, Given, UsageFault};
+use res_model::Free;
 use std::alloc::Global;
 
 /// The greatest supply voltage, in millivolts.

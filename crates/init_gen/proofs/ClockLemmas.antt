@@ -9,7 +9,7 @@ use Rattle.reg_machine.specs.Tree.{m_of, n_of, hpre_value, ppre_value}
 use Rattle.reg_machine.specs.Legal.{NodesFit}
 use Rattle.res_base.specs.Fraction.{whole, over}
 use Rattle.res_model.specs.Limits.{IsWithinMax}
-use Rattle.res_model.specs.Table.{hsi}
+use Rattle.res_model.specs.ClockValues.{hsi}
 use Rattle.res_model.specs.declared.table.TableParts.{TableParts}
 use Rattle.init_gen.specs.declared.setting.Codes.{Codes}
 use Rattle.init_gen.specs.Writes.{pll_word, code_word, acr_word}

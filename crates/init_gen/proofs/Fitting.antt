@@ -5,7 +5,7 @@ use Rattle.res_base.specs.Fraction.{Fraction, whole, times, over}
 use Rattle.res_model.specs.Clock.{output}
 use Rattle.res_model.specs.Limits.{AreWithin}
 use Rattle.res_model.specs.Power.{flash_rows, scale_limit}
-use Rattle.res_model.specs.Table.{hsi}
+use Rattle.res_model.specs.ClockValues.{hsi}
 use Rattle.res_model.specs.declared.clock.Facts.{Facts}
 use Rattle.res_model.specs.declared.table.TableParts.{TableParts}
 use Rattle.reg_machine.specs.Words.{pll_source}

@@ -25,6 +25,10 @@ use Rattle.init_gen.proofs.PinLemmas.{put, Moved, quiet_mode, quiet_af, quiet_mo
 abbrev pub with_gpio : State → List ℕ → State
 with_gpio s g = record s { gpio = g }
 
+-- an op that is done leaves no polls, and there were none
+pub idle_stays : (s : State) → s.polls ≡ 0 → record s { polls = 0 } ≡ s
+idle_stays s e = ap (λ n. record s { polls = n }) (sym e)
+
 -- the fields of a pin as at reset
 abbrev pub reset_mode : ℕ → ℕ
 reset_mode p = cond (is_debug p) 2 0
@@ -130,7 +134,7 @@ or_right k a x h = let e : x / 2 ^ k % 2 ≡ 1 = eqb-true _ 1 h in eq-eqb _ 1 (o
 
 module _ (legal right : State → Type 0) (base : State) (pins : List (Option Setup)) (wants : List (Option Mode))
     (link : (p : ℕ) → ◌≡◌ {A = Option Mode} (get_or wants p None) (wanted (get_or pins p None)))
-    (settled : (a : Answer) → flags a base ≡ base)
+    (settled : (a : Answer) → flags a base ≡ base) (idle : base.polls ≡ 0)
     (legal_of : (g : List ℕ) → ArePinsLegal wants g → legal (with_gpio base g)) where
   -- legality as the setups say it
   to_wants : (p m af : ℕ) → IsPinLegal (wanted (get_or pins p None)) p m af → IsPinLegal (get_or wants p None) p m af
@@ -173,7 +177,7 @@ module _ (legal right : State → Type 0) (base : State) (pins : List (Option Se
     pub noted : bit_of port base.ahb_read ≡ true
 
   went : (port : ℕ) (k : GpioReg) (low width value : ℕ) (ops : List Op) (g : List ℕ) → IsOn port → after (field_op port k low width value) ops (act (with_gpio base g) (field_op port k low width value)) ≡ Running ops (with_gpio base (put g (slot port k) low width value))
-  went port k low width value ops g on = rw (on.enabled, on.noted) refl
+  went port k low width value ops g on = rw (on.enabled, on.noted) (ap (Running ops) (idle_stays (with_gpio base (put g (slot port k) low width value)) idle))
 
   -- one modify
   gpio_op : (port : ℕ) (k : GpioReg) (low width value : ℕ) (ops : List Op) (g : List ℕ) → IsOn port → ArePinsLegal wants g → Sound legal right ops (with_gpio base (put g (slot port k) low width value)) → Sound legal right (field_op port k low width value ∷ ops) (with_gpio base g)

@@ -22,7 +22,7 @@ use Rattle.init_gen.specs.PinWrites.{wanted, AreWhole, gpio_section}
 use Rattle.res_base.specs.Fraction.{Fraction, whole}
 use Rattle.res_model.specs.Limits.{AreWithin}
 use Rattle.res_model.specs.Power.{scale_limit}
-use Rattle.res_model.specs.Table.{hsi}
+use Rattle.res_model.specs.ClockValues.{hsi}
 use Rattle.res_model.specs.declared.table.Mode.{Mode}
 use Rattle.res_model.specs.declared.table.TableParts.{TableParts}
 use Rattle.reg_machine.specs.declared.state.Target.{Target}
@@ -242,7 +242,7 @@ module _ (pf oi by : Bool) (ax ay pw : ℕ) (tb : TableParts) (want : Target) (s
     sound11 : S ops11 (state10 true 0)
     unfolding state10 S ops11
     sound11 =
-        section_sound (IsLegal tb want) (FieldsAre want sys c) (state10 true 0) pins want.pins link whole_pins (λ a. flags10 a true 0 ∙ ap (λ b. state10 b 0) (still_true a.switch))
+        section_sound (IsLegal tb want) (FieldsAre want sys c) (state10 true 0) pins want.pins link whole_pins (λ a. flags10 a true 0 ∙ ap (λ b. state10 b 0) (still_true a.switch)) refl
         (λ n q w al. legal10 n q w true 0 al)
         (λ n q w m. record { source = refl; sysclk = k.sysclk; pll_on = k.pll_on; pll = k.pll_is; hpre = h_is; ppre1 = a_is; ppre2 = b_is; modes = m })
 

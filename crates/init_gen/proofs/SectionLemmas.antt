@@ -17,7 +17,7 @@ use Rattle.reg_machine.specs.Reset.{reset_gpio}
 use Rattle.res_model.specs.declared.table.Mode.{Mode}
 use Rattle.init_gen.specs.PinWrites.{wanted, AreWhole, ops_in, is_left, gpio_ops, ports, gpio_section}
 use Rattle.reg_machine.proofs.SoundLemmas.{sound_op}
-use Rattle.init_gen.proofs.GpioLemmas.{reset_pin, reset_legal, or_right, gpio_sound}
+use Rattle.init_gen.proofs.GpioLemmas.{idle_stays, reset_pin, reset_legal, or_right, gpio_sound}
 
 -- the ports are few
 ports_if : (b : Bool) (p x : ℕ) → p < 144 → x < 512 → cond b x (bit_or (2 ^ (p / 16)) x) < 512
@@ -53,7 +53,7 @@ abbrev pub with_ports : State → ℕ → ℕ → List ℕ → State
 with_ports s n r g = record s { ahb1enr = n; ahb_read = r; gpio = g }
 
 module _ (legal right : State → Type 0) (base : State) (pins : List (Option Setup)) (wants : List (Option Mode)) (link : (p : ℕ) → ◌≡◌ {A = Option Mode} (get_or wants p None) (wanted (get_or pins p None))) (whole : AreWhole pins)
-    (settled : (a : Answer) → flags a base ≡ base)
+    (settled : (a : Answer) → flags a base ≡ base) (idle : base.polls ≡ 0)
     (legal_of : (n r : ℕ) (g : List ℕ) → ArePinsLegal wants g → legal (with_ports base n r g))
     (right_of : (n r : ℕ) (g : List ℕ) → HaveModes wants g → right (with_ports base n r g)) where
   still : (n r : ℕ) (g : List ℕ) (a : Answer) → flags a (with_ports base n r g) ≡ with_ports base n r g
@@ -65,13 +65,13 @@ module _ (legal right : State → Type 0) (base : State) (pins : List (Option Se
   -- from the pins on
   pins_sound : (n r : ℕ) → ((k : ℕ) → bit_of k (ports 0 pins) ≡ true → (bit_of k n ≡ true) × (bit_of k r ≡ true)) → Sound legal right (gpio_ops 0 pins) (with_ports base n r reset_gpio)
   pins_sound n r on =
-      gpio_sound legal right (with_ports base n r reset_gpio) pins wants link (still n r reset_gpio) (λ g l. legal_of n r g l) whole (λ g m. right_of n r g m)
+      gpio_sound legal right (with_ports base n r reset_gpio) pins wants link (still n r reset_gpio) idle (λ g l. legal_of n r g l) whole (λ g m. right_of n r g m)
       (λ k h. let t = on k h in record { enabled = t.0; noted = t.1 })
 
   bars_not : (ops : List Op) → after (op.Modify reg.Ahb1enr 0 (ports 0 pins)) ops (act (with_ports base 1048576 0 reset_gpio) (op.Modify reg.Ahb1enr 0 (ports 0 pins))) ≡ Running ops (with_ports base (bit_or 1048576 (ports 0 pins)) 0 reset_gpio)
   bars_not ops =
       let l = ports_small 0 pins (omega (arith, whole.few)) in
-      rw (same_above (ports 0 pins) l, nothing_cleared (ports 0 pins) l) refl
+      rw (same_above (ports 0 pins) l, nothing_cleared (ports 0 pins) l) (ap (Running ops) (idle_stays (with_ports base (bit_or 1048576 (ports 0 pins)) 0 reset_gpio) idle))
 
   some_sound : Sound legal right (op.Modify reg.Ahb1enr 0 (ports 0 pins) ∷ op.Read reg.Ahb1enr ∷ gpio_ops 0 pins) (with_ports base 1048576 0 reset_gpio)
   some_sound =
@@ -83,7 +83,7 @@ module _ (legal right : State → Type 0) (base : State) (pins : List (Option Se
       (λ a. ap (λ s. after one (two ∷ gpio_ops 0 pins) (act s one)) (still 1048576 0 reset_gpio a) ∙ bars_not (two ∷ gpio_ops 0 pins))
       (λ a. sound_op legal right two (gpio_ops 0 pins) (with_ports base v 0 reset_gpio) (λ b. with_ports base v v reset_gpio) (legal_of v 0 reset_gpio first_legal)
       (λ b. subst legal (sym (still v 0 reset_gpio b)) (legal_of v 0 reset_gpio first_legal))
-      (λ b. ap (λ s. after two (gpio_ops 0 pins) (act s two)) (still v 0 reset_gpio b))
+      (λ b. ap (λ s. after two (gpio_ops 0 pins) (act s two)) (still v 0 reset_gpio b) ∙ ap (Running (gpio_ops 0 pins)) (idle_stays (with_ports base v v reset_gpio) idle))
       (λ b. pins_sound v v (λ k h. (or_right k 1048576 (ports 0 pins) h, or_right k 1048576 (ports 0 pins) h))))
 
   section_if : (b : Bool) → eqb (ports 0 pins) 0 ≡ b → Sound legal right (cond b [] (op.Modify reg.Ahb1enr 0 (ports 0 pins) ∷ op.Read reg.Ahb1enr ∷ gpio_ops 0 pins)) (with_ports base 1048576 0 reset_gpio)

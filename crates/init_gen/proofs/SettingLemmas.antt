@@ -10,7 +10,7 @@ use Rattle.res_base.proofs.ListLemmas.{each_in}
 use Rattle.res_model.specs.Clock.{IsOscillator, is_hse, is_pll, hse_used, pll_used, output, vco_in_of, vco_of, system_output_of, sysclk_of, timer, where_used, nodes_of}
 use Rattle.res_model.specs.Limits.{AreWithin, IsWithinMax}
 use Rattle.res_model.specs.Power.{has_supply, range_at, rows_of_range, flash_rows, max_of, scale_limit}
-use Rattle.res_model.specs.Table.{hsi, ahb_dividers, apb_dividers, pll_dividers, known_scales}
+use Rattle.res_model.specs.ClockValues.{hsi, ahb_dividers, apb_dividers, pll_dividers, known_scales}
 use Rattle.res_model.specs.Valid.{IsValid, IsScale, IsFlashRange}
 use Rattle.res_model.specs.declared.clock.ClockChoice.{ClockChoice}
 use Rattle.res_model.specs.declared.clock.Facts.{Facts}

@@ -4,7 +4,7 @@ use Rattle.res_base.specs.Lists.{Member}
 use Rattle.res_model.specs.Clock.{IsInRange, hclk_of, nodes_of}
 use Rattle.res_model.specs.Limits.{HseIsFed, VcoInIsWithin, VcoIsWithin, SysclkIsWithin, HclkIsWithinScale, Pclk1IsWithin, Pclk2IsWithin}
 use Rattle.res_model.specs.Power.{RowCovers, range_at, range_prefetches}
-use Rattle.res_model.specs.Table.{ahb_dividers, apb_dividers, pll_dividers, known_scales}
+use Rattle.res_model.specs.ClockValues.{ahb_dividers, apb_dividers, pll_dividers, known_scales}
 use Rattle.res_model.specs.declared.clock.ClockChoice.{ClockChoice}
 use Rattle.res_model.specs.declared.table.TableParts.{TableParts}
 use Rattle.reg_machine.specs.Pins.{HaveModes}

@@ -1,3 +1,4 @@
+//! What is to be set up, and the codes of it.
 use res_model::{ClockChoice, Facts, Mode, Pull, Speed};
 
 /// A pin that a signal has: the mode that it gets, its pull resistor and output speed, and whether its output is an

@@ -5,6 +5,7 @@ ghost use Rattle.res_model.specs.declared.table.TableParts.{TableParts};
 ghost use Rattle.reg_machine.specs.Legal.{IsLegal};
 ghost use Rattle.reg_machine.specs.Reset.{reset_of};
 ghost use Rattle.reg_machine.specs.Run.{Sound};
+ghost use Rattle.reg_machine.specs.declared.op.Op.TheVariants as op;
 ghost use Rattle.init_gen.specs.declared.setting.Oscillator.TheVariants as oscillator;
 ghost use Rattle.init_gen.specs.Codes.{codes_of, IsSmall};
 ghost use Rattle.init_gen.specs.Good.{IsSettable, IsAllowed, IsRight};
@@ -43,17 +44,9 @@ fn with_vos(ops: Vec<Op>, vos2: bool) -> Result<Vec<Op>, AllocError>
         return Ok(ops);
     }
     let mut all = ops;
-    all.push(Op::Modify {
-        reg: Reg::Apb1enr,
-        clear: 0,
-        set: 0x1000_0000,
-    })?;
+    all.push(modify(Reg::Apb1enr, 0, 0x1000_0000))?;
     all.push(Op::Read { reg: Reg::Apb1enr })?;
-    all.push(Op::Modify {
-        reg: Reg::PwrCr,
-        clear: 0x4000,
-        set: 0,
-    })?;
+    all.push(modify(Reg::PwrCr, 0x4000, 0))?;
     Ok(all)
 }
 
@@ -65,11 +58,7 @@ fn with_hse(ops: Vec<Op>, o: Oscillator) -> Result<Vec<Op>, AllocError>
         Oscillator::Crystal => with_crystal(ops),
         Oscillator::Bypass => {
             let mut all = ops;
-            all.push(Op::Modify {
-                reg: Reg::Cr,
-                clear: 0,
-                set: 0x4_0000,
-            })?;
+            all.push(modify(Reg::Cr, 0, 0x4_0000))?;
             with_crystal(all)
         }
     }
@@ -79,18 +68,8 @@ fn with_crystal(ops: Vec<Op>) -> Result<Vec<Op>, AllocError>
     ensures { IfOk result (λ r. r.items ≡ ops.items ++ hse_ops oscillator.Crystal []) }
 {
     let mut all = ops;
-    all.push(Op::Modify {
-        reg: Reg::Cr,
-        clear: 0,
-        set: 0x1_0000,
-    })?;
-    all.push(Op::Await {
-        reg: Reg::Cr,
-        mask: 0x2_0000,
-        want: 0x2_0000,
-        polls: 100_000,
-        name: Timeout::Hse,
-    })?;
+    all.push(modify(Reg::Cr, 0, 0x1_0000))?;
+    all.push(wait(Reg::Cr, 0x2_0000, 0x2_0000, 100_000, Timeout::Hse))?;
     Ok(all)
 }
 
@@ -102,22 +81,9 @@ fn with_pll(ops: Vec<Op>, c: Codes) -> Result<Vec<Op>, AllocError>
         return Ok(ops);
     }
     let mut all = ops;
-    all.push(Op::Write {
-        reg: Reg::Pllcfgr,
-        value: pll_word(c),
-    })?;
-    all.push(Op::Modify {
-        reg: Reg::Cr,
-        clear: 0,
-        set: 0x100_0000,
-    })?;
-    all.push(Op::Await {
-        reg: Reg::Cr,
-        mask: 0x200_0000,
-        want: 0x200_0000,
-        polls: 10_000,
-        name: Timeout::Pll,
-    })?;
+    all.push(write(Reg::Pllcfgr, pll_word(c)))?;
+    all.push(modify(Reg::Cr, 0, 0x100_0000))?;
+    all.push(wait(Reg::Cr, 0x200_0000, 0x200_0000, 10_000, Timeout::Pll))?;
     Ok(all)
 }
 
@@ -126,22 +92,9 @@ fn with_late(ops: Vec<Op>, prefetch: bool, c: Codes) -> Result<Vec<Op>, AllocErr
     ensures { IfOk result (λ r. r.items ≡ ops.items ++ late_ops prefetch c []) }
 {
     let mut all = ops;
-    all.push(Op::Write {
-        reg: Reg::Acr,
-        value: acr_word(prefetch, c.wait),
-    })?;
-    all.push(Op::Await {
-        reg: Reg::Acr,
-        mask: 7,
-        want: c.wait,
-        polls: 1000,
-        name: Timeout::Latency,
-    })?;
-    all.push(Op::Modify {
-        reg: Reg::Cfgr,
-        clear: 0xFCF0,
-        set: code_word(c),
-    })?;
+    all.push(write(Reg::Acr, acr_word(prefetch, c.wait)))?;
+    all.push(wait(Reg::Acr, 7, c.wait, 1000, Timeout::Latency))?;
+    all.push(modify(Reg::Cfgr, 0xFCF0, code_word(c)))?;
     with_switch(all, c.src)
 }
 
@@ -153,19 +106,33 @@ fn with_switch(ops: Vec<Op>, src: u32) -> Result<Vec<Op>, AllocError>
         return Ok(ops);
     }
     let mut all = ops;
-    all.push(Op::Modify {
-        reg: Reg::Cfgr,
-        clear: 3,
-        set: src,
-    })?;
-    all.push(Op::Await {
-        reg: Reg::Cfgr,
-        mask: 12,
-        want: 4 * src,
-        polls: 100_000,
-        name: Timeout::Switch,
-    })?;
+    all.push(modify(Reg::Cfgr, 3, src))?;
+    all.push(wait(Reg::Cfgr, 12, 4 * src, 100_000, Timeout::Switch))?;
     Ok(all)
+}
+
+fn write(reg: Reg, value: u32) -> Op
+    ensures { result ≡ op.Write reg value }
+{
+    Op::Write { reg, value }
+}
+
+fn modify(reg: Reg, clear: u32, set: u32) -> Op
+    ensures { result ≡ op.Modify reg clear set }
+{
+    Op::Modify { reg, clear, set }
+}
+
+fn wait(reg: Reg, mask: u32, want: u32, polls: u32, name: Timeout) -> Op
+    ensures { result ≡ op.Await reg mask want polls name }
+{
+    Op::Await {
+        reg,
+        mask,
+        want,
+        polls,
+        name,
+    }
 }
 
 fn pll_word(c: Codes) -> u32

@@ -1,7 +1,7 @@
 -- The first home outside its domain.
 use Rattle.std.proofs.Common.{◌≡◌, ℕ, zero, suc, ◌<◌, List, [], ◌∷◌, length, drop, get_or, Bool, true, false, Err, refl, arith}
-use Rattle.res_model.specs.Project.{all_within}
-use Rattle.res_model.specs.declared.fault.ProjectFault.TheVariants.{OutOfTable}
+use Rattle.ioc_project.specs.Project.{all_within}
+use Rattle.ioc_project.specs.declared.fault.ProjectFault.TheVariants.{OutOfTable}
 use Rattle.res_model.specs.declared.project.Home.{Home}
 use Rattle.ioc_project.specs.Tests.{passes}
 

@@ -1,2 +1,3 @@
 mod FirstOutside
 mod PinOrder
+pub mod ProjectLaws

@@ -6,9 +6,9 @@ use Rattle.std.specs.BTreeMap.{insert_entry}
 use Rattle.std.specs.Ordering.{nat_cmp, match_ordering}
 use Rattle.std.specs.declared.cmp.Ordering.{Ordering}
 use Rattle.std.specs.declared.cmp.Ordering.TheVariants.{Less, Equal, Greater}
-use Rattle.res_model.specs.Lines.{pin_number}
-use Rattle.res_model.specs.Project.{numbered, with_number}
-use Rattle.res_model.specs.declared.line.Line.{Line}
+use Rattle.ioc_text.specs.Lines.{pin_number}
+use Rattle.ioc_project.specs.Project.{numbered, with_number}
+use Rattle.ioc_text.specs.declared.line.Line.{Line}
 use Rattle.ioc_project.specs.Views.{seen}
 
 seen_before : (o : Ordering) (a b c : List (ℕ × Bor Line)) → seen (match_ordering o a b c) ≡ match_ordering o (seen a) (seen b) (seen c)

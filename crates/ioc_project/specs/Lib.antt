@@ -1,4 +1,6 @@
 pub use Rattle.res_model.specs.Placed
-pub use Rattle.res_model.specs.Project
+pub mod Project
+pub mod ProjectFaults
+pub mod Read
 pub mod Tests
 pub mod Views

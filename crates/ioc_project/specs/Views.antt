@@ -1,7 +1,7 @@
 -- What borrowed lines and signals say.
 use Rattle.std.specs.Prelude.{ℕ, List, map, Option, Some, None}
 use Rattle.std.specs.Borrow.{Bor}
-use Rattle.res_model.specs.declared.line.Line.{Line}
+use Rattle.ioc_text.specs.declared.line.Line.{Line}
 use Rattle.res_model.specs.declared.table.TableSignal.{TableSignal}
 
 -- each number with its line

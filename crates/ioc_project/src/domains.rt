@@ -1,9 +1,10 @@
 ghost use Rattle.std.specs.Prelude.{◌≡◌, ◌<◌, length};
-ghost use Rattle.res_model.specs.Project.{is_among, is_within, domain_tests, all_within, in_domains, fixes_clock, fixes_signals};
-ghost use Rattle.res_model.specs.ProjectFaults.{Gives};
+ghost use Rattle.ioc_project.specs.Project.{is_among, is_within, domain_tests, all_within, in_domains, fixes_clock, fixes_signals};
+ghost use Rattle.ioc_project.specs.ProjectFaults.{Gives};
 ghost use Rattle.ioc_project.specs.Tests.{passes};
 
-use res_model::{Domains, Free, Home, ProjectFault, TableParts};
+use crate::fault::ProjectFault;
+use res_model::{Domains, Free, Home, TableParts};
 
 pub(crate) fn fixes_clock(free: Free) -> bool
     ensures { result ≡ fixes_clock free }
@@ -66,7 +67,7 @@ fn all_within(d: &Domains, homes: &[Home; 10]) -> Result<(), ProjectFault>
 }
 
 /// Where clock variables are fixed, each home is in its domain; else the line of the first that is not.
-#[tactic(auto, unfolding(res_model::specs::Project::in_domains))]
+#[tactic(auto, unfolding(crate::specs::Project::in_domains))]
 pub(crate) fn in_domains(
     t: &TableParts,
     fixed: bool,

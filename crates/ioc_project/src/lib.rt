@@ -3,6 +3,7 @@
 
 mod clocks;
 mod domains;
+mod fault;
 mod homes;
 mod marks;
 mod needs;
@@ -13,8 +14,9 @@ mod signals;
 mod values;
 
 pub use clocks::facts;
+pub use fault::ProjectFault;
 pub use project::read_project;
-pub use res_model::{Home, Project, ProjectFault, Pull, Signal, Speed};
+pub use res_model::{Home, Project, Pull, Signal, Speed};
 
 #[cfg(test)]
 mod tests;

@@ -1,7 +1,7 @@
 ghost use Rattle.std.specs.Prelude.{◌≡◌, ◌++◌, ◌↔◌, codes, map, IfOk, IfSome, IsSome, IsTrue, is_some};
 ghost use Rattle.std.specs.List.{list_any};
 ghost use Rattle.std.specs.Str.{bytes_eq};
-ghost use Rattle.res_model.specs.Project.{is_mark, mark_of, mark_given, marks_of, pin_line_at};
+ghost use Rattle.ioc_project.specs.Project.{is_mark, mark_of, mark_given, marks_of, pin_line_at};
 
 use crate::signals::{is_virtual, pin_key};
 use ioc_text::{Ioc, Line};
@@ -22,7 +22,7 @@ fn mark_among<'t>(marks: &'t [Text], text: &[u8]) -> Option<&'t Text>
 }
 
 /// The mark of an IP that has this text.
-#[tactic(auto, unfolding(res_model::specs::Project::is_mark))]
+#[tactic(auto, unfolding(crate::specs::Project::is_mark))]
 fn mark_named<'t>(t: &'t TableParts, text: &[u8]) -> Option<&'t Text>
     ensures found { is_some result ≡ is_mark t.now text.now }
     ensures same { IfSome result (λ mark. mark.now ≡ text.now) }
@@ -36,7 +36,7 @@ fn mark_named<'t>(t: &'t TableParts, text: &[u8]) -> Option<&'t Text>
 }
 
 /// Appends the mark that a pin's line adds.
-#[tactic(auto, unfolding(res_model::specs::Project::mark_of))]
+#[tactic(auto, unfolding(crate::specs::Project::mark_of))]
 fn push_mark(
     alloc: Global,
     t: &TableParts,

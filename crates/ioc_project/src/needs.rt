@@ -1,12 +1,13 @@
 ghost use Rattle.std.specs.Prelude.{◌≡◌, ◌≤◌, ◌+◌, length, IfOk};
 ghost use Rattle.res_model.specs.Signals.{signal_named};
-ghost use Rattle.res_model.specs.Project.{capped, need_of, known_need, needs_from, few};
-ghost use Rattle.res_model.specs.ProjectFaults.{Gives};
+ghost use Rattle.ioc_project.specs.Project.{capped, need_of, known_need, needs_from, few};
+ghost use Rattle.ioc_project.specs.ProjectFaults.{Gives};
 ghost use Rattle.res_model.specs.Steps.{with_front};
 
+use crate::fault::ProjectFault;
 use crate::signals::signal_named;
 use res_base::Text;
-use res_model::{ProjectFault, Pull, Signal, Speed, TableParts};
+use res_model::{Pull, Signal, Speed, TableParts};
 use std::alloc::Global;
 
 /// The greatest number of signals and needs together.
@@ -24,7 +25,7 @@ fn capped(number: usize) -> u32
 }
 
 /// The need of this number and name.
-#[tactic(auto, unfolding(res_model::specs::Project::need_of))]
+#[tactic(auto, unfolding(crate::specs::Project::need_of))]
 fn need_of(
     alloc: Global,
     t: &TableParts,
@@ -67,7 +68,7 @@ pub(crate) fn push_needs(
 }
 
 /// Whether signals and needs are few enough.
-#[tactic(auto, unfolding(res_model::specs::Project::few))]
+#[tactic(auto, unfolding(crate::specs::Project::few))]
 pub(crate) fn few(signals: &[Signal]) -> Result<(), ProjectFault>
     ensures { Gives (λ _. signals.now) result (few signals.now) }
 {

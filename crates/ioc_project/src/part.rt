@@ -1,15 +1,16 @@
 ghost use Rattle.std.specs.Prelude.{◌≡◌, false, codes};
 ghost use Rattle.std.specs.List.{list_any};
 ghost use Rattle.std.specs.Str.{bytes_eq};
-ghost use Rattle.res_model.specs.Lines.{line_at};
+ghost use Rattle.ioc_text.specs.Lines.{line_at};
 ghost use Rattle.res_model.specs.Numbers.{number_of};
-ghost use Rattle.res_model.specs.Project.{truth_of, value_or, named_part, named_package, part_of, kept_of};
-ghost use Rattle.res_model.specs.ProjectFaults.{Gives};
+ghost use Rattle.ioc_project.specs.Project.{truth_of, value_or, named_part, named_package, part_of, kept_of};
+ghost use Rattle.ioc_project.specs.ProjectFaults.{Gives};
 
+use crate::fault::ProjectFault;
 use crate::values::{number_of, truth_at};
 use ioc_text::Ioc;
 use res_base::Text;
-use res_model::{ProjectFault, TableParts};
+use res_model::TableParts;
 
 fn is_name(names: &[Text], name: &[u8]) -> bool
     ensures { result ≡ list_any (bytes_eq name.now) names.now }
@@ -42,7 +43,7 @@ fn named_package(t: &TableParts, ioc: &Ioc) -> Result<(), ProjectFault>
 }
 
 /// Whether the part and the package are the table's.
-#[tactic(auto, unfolding(res_model::specs::Project::part_of))]
+#[tactic(auto, unfolding(crate::specs::Project::part_of))]
 pub(crate) fn part_of(t: &TableParts, ioc: &Ioc) -> Result<(), ProjectFault>
     ensures { Gives (λ unit. unit) result (part_of t.now ioc.now) }
 {
@@ -61,7 +62,7 @@ fn pins_count(ioc: &Ioc) -> Result<u64, ProjectFault>
 }
 
 /// Whether all signals are kept.
-#[tactic(auto, unfolding(res_model::specs::Project::kept_of))]
+#[tactic(auto, unfolding(crate::specs::Project::kept_of))]
 pub(crate) fn kept_of(ioc: &Ioc) -> Result<bool, ProjectFault>
     ensures { Gives (λ kept. kept) result (kept_of ioc.now) }
 {

@@ -1,5 +1,5 @@
 ghost use Rattle.std.specs.Prelude.{◌≡◌, [], map, IfOk};
-ghost use Rattle.res_model.specs.Project.{numbered, pin_lines};
+ghost use Rattle.ioc_project.specs.Project.{numbered, pin_lines};
 ghost use Rattle.std.specs.BTreeMap.{values};
 ghost use Rattle.ioc_project.specs.Views.{seen};
 
@@ -31,7 +31,7 @@ fn in_order<'l>(
 }
 
 /// The lines of keys `Mcu.Pin<k>`, with k ascending.
-#[tactic(auto, unfolding(res_model::specs::Project::pin_lines))]
+#[tactic(auto, unfolding(crate::specs::Project::pin_lines))]
 pub(crate) fn pin_lines(alloc: Global, ioc: &Ioc) -> Result<Vec<&Line>, OutOfMemory>
     ensures { IfOk result (λ v. map (λ line. line.now) v.items ≡ pin_lines ioc.now) }
 {

@@ -1,9 +1,10 @@
 ghost use Rattle.std.specs.Prelude.{◌≤◌, length, IfOk};
-ghost use Rattle.res_model.specs.Placed.{IsRead};
-ghost use Rattle.res_model.specs.Project.{project_of};
-ghost use Rattle.res_model.specs.ProjectFaults.{Gives};
+ghost use Rattle.ioc_project.specs.Read.{IsRead};
+ghost use Rattle.ioc_project.specs.Project.{project_of};
+ghost use Rattle.ioc_project.specs.ProjectFaults.{Gives};
 
 use crate::domains::{fixes_clock, fixes_signals, in_domains};
+use crate::fault::ProjectFault;
 use crate::homes::{homes_of, hse_of};
 use crate::marks::marks_of;
 use crate::needs::{few, push_needs};
@@ -12,7 +13,7 @@ use crate::pins::pin_lines;
 use crate::signals::push_signals;
 use ioc_text::Ioc;
 use res_base::Items;
-use res_model::{Opts, Project, ProjectFault, TableParts, Tables};
+use res_model::{Opts, Project, TableParts, Tables};
 use std::alloc::Global;
 
 /// Reads the project that the lines tell under a table, or its first refusal.
@@ -33,7 +34,7 @@ pub fn read_project(
 }
 
 /// The same under what a table says.
-#[tactic(auto, unfolding(res_model::specs::Project::project_of))]
+#[tactic(auto, unfolding(crate::specs::Project::project_of))]
 pub(crate) fn project_under(
     alloc: Global,
     t: &TableParts,

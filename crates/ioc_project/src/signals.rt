@@ -1,18 +1,19 @@
 ghost use Rattle.std.specs.Prelude.{◌≡◌, ◌==◌, ◌++◌, ◌<◌, ◌≤◌, false, codes, length, map, find, position, IfOk, IfSome};
 ghost use Rattle.std.specs.List.{list_any, starts_with};
 ghost use Rattle.std.specs.Option.{option_copied};
-ghost use Rattle.res_model.specs.Lines.{line_at};
+ghost use Rattle.ioc_text.specs.Lines.{line_at};
 ghost use Rattle.res_model.specs.Signals.{signal_named};
-ghost use Rattle.res_model.specs.Project.{truth_of, pull_of, speed_of, value_or, is_virtual, pin_line_at, is_some_of, is_taken, place_of, place_for, signal_given, name_given, is_misplaced, candidate, signal_of, with_pin, signals_after};
-ghost use Rattle.res_model.specs.ProjectFaults.{Gives};
+ghost use Rattle.ioc_project.specs.Project.{truth_of, pull_of, speed_of, value_or, is_virtual, pin_line_at, is_some_of, is_taken, place_of, place_for, signal_given, name_given, is_misplaced, candidate, signal_of, with_pin, signals_after};
+ghost use Rattle.ioc_project.specs.ProjectFaults.{Gives};
 ghost use Rattle.res_model.specs.declared.project.Pull.TheVariants.{None as NoPull};
 ghost use Rattle.res_model.specs.declared.project.Speed.TheVariants.{Low};
 ghost use Rattle.ioc_project.specs.Views.{seen_signal};
 
+use crate::fault::ProjectFault;
 use crate::values::{pull_of, speed_of, truth_at};
 use ioc_text::{Ioc, Line};
 use res_base::{OutOfMemory, Text};
-use res_model::{PinUse, ProjectFault, Pull, Signal, Speed, TableParts, TableSignal};
+use res_model::{PinUse, Pull, Signal, Speed, TableParts, TableSignal};
 use std::alloc::Global;
 
 /// Whether a pin holds no place.
@@ -32,7 +33,7 @@ pub(crate) fn pin_key(alloc: Global, pin: &[u8], what: &[u8]) -> Result<Vec<u8>,
 }
 
 /// The place of a pin in the table.
-#[tactic(auto, unfolding(res_model::specs::Project::place_of))]
+#[tactic(auto, unfolding(crate::specs::Project::place_of))]
 fn place_of(t: &TableParts, name: &[u8]) -> Option<usize>
     ensures place { result ≡ place_of t.now name.now }
     ensures within { IfSome result (λ place. place < length t.now.pins) }
@@ -64,7 +65,7 @@ fn is_home(signal: &Signal, place: u8) -> bool
 }
 
 /// Whether some signal is at home there.
-#[tactic(auto, unfolding(res_model::specs::Project::is_taken))]
+#[tactic(auto, unfolding(crate::specs::Project::is_taken))]
 fn is_taken(signals: &[Signal], place: u8) -> bool
     ensures { result ≡ is_taken signals.now place }
 {
@@ -72,7 +73,7 @@ fn is_taken(signals: &[Signal], place: u8) -> bool
 }
 
 /// The place of a pin's line, where none of the signals before is.
-#[tactic(auto, unfolding(res_model::specs::Project::place_for))]
+#[tactic(auto, unfolding(crate::specs::Project::place_for))]
 fn place_for(t: &TableParts, before: &[Signal], line: &Line) -> Result<u8, ProjectFault>
     requires { length t.now.pins ≤ 144 }
     ensures { Gives (λ place. place) result (place_for t.now before.now line.now) }
@@ -149,7 +150,7 @@ fn has_row_at(rows: &[PinUse], place: u8) -> bool
 }
 
 /// Whether a signal has rows, and none of them at the place.
-#[tactic(auto, unfolding(res_model::specs::Project::is_misplaced))]
+#[tactic(auto, unfolding(crate::specs::Project::is_misplaced))]
 fn is_misplaced(signal: &TableSignal, place: u8) -> bool
     ensures { result ≡ is_misplaced signal.now place }
 {
@@ -174,7 +175,7 @@ fn candidate(
 }
 
 /// The signal of a pin's line, where `before` are those of smaller k.
-#[tactic(auto, unfolding(res_model::specs::Project::signal_of))]
+#[tactic(auto, unfolding(crate::specs::Project::signal_of))]
 fn signal_of(
     alloc: Global,
     t: &TableParts,
@@ -204,7 +205,7 @@ fn signal_of(
 }
 
 /// Appends the signal of a pin's line, unless the pin holds no place.
-#[tactic(auto, unfolding(res_model::specs::Project::with_pin))]
+#[tactic(auto, unfolding(crate::specs::Project::with_pin))]
 fn push_signal(
     alloc: Global,
     t: &TableParts,

@@ -1,9 +1,10 @@
+use crate::fault::ProjectFault;
 use crate::project::project_under;
 use ioc_text::read_ioc;
 use res_base::{Items, OutOfMemory, Text};
 use res_model::{
-    Bounds, Domains, Free, Ip, Mode, Need48, Opts, Pin, PinUse, Project, ProjectFault, Role,
-    TableParts, TableSignal,
+    Bounds, Domains, Free, Ip, Mode, Need48, Opts, Pin, PinUse, Project, Role, TableParts,
+    TableSignal,
 };
 use std::alloc::{AllocError, Global};
 use std::process::Abort;

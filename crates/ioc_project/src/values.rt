@@ -1,12 +1,13 @@
 ghost use Rattle.std.specs.Prelude.{◌≡◌, false};
-ghost use Rattle.res_model.specs.Lines.{line_at};
+ghost use Rattle.ioc_text.specs.Lines.{line_at};
 ghost use Rattle.res_model.specs.Numbers.{number_of, number_up_to};
-ghost use Rattle.res_model.specs.Project.{truth_of, pull_of, speed_of, hertz_of, number_after, system_source_of, pll_source_of, value_or};
-ghost use Rattle.res_model.specs.ProjectFaults.{Gives};
+ghost use Rattle.ioc_project.specs.Project.{truth_of, pull_of, speed_of, hertz_of, number_after, system_source_of, pll_source_of, value_or};
+ghost use Rattle.ioc_project.specs.ProjectFaults.{Gives};
 
+use crate::fault::ProjectFault;
 use ioc_text::Ioc;
 use res_base::parse_dec;
-use res_model::{ProjectFault, Pull, Speed};
+use res_model::{Pull, Speed};
 
 pub(crate) fn number_of(text: &[u8]) -> Option<u64>
     ensures { result ≡ number_of text.now }
@@ -34,7 +35,7 @@ fn truth_of(value: &[u8]) -> Option<bool>
     }
 }
 
-#[tactic(auto, unfolding(res_model::specs::Project::pull_of))]
+#[tactic(auto, unfolding(crate::specs::Project::pull_of))]
 pub(crate) fn pull_of(value: &[u8]) -> Option<Pull>
     ensures { result ≡ pull_of value.now }
 {
@@ -49,7 +50,7 @@ pub(crate) fn pull_of(value: &[u8]) -> Option<Pull>
     }
 }
 
-#[tactic(auto, unfolding(res_model::specs::Project::speed_of))]
+#[tactic(auto, unfolding(crate::specs::Project::speed_of))]
 pub(crate) fn speed_of(value: &[u8]) -> Option<Speed>
     ensures { result ≡ speed_of value.now }
 {
@@ -66,7 +67,7 @@ pub(crate) fn speed_of(value: &[u8]) -> Option<Speed>
     }
 }
 
-#[tactic(auto, unfolding(res_model::specs::Project::hertz_of))]
+#[tactic(auto, unfolding(crate::specs::Project::hertz_of))]
 pub(crate) fn hertz_of(value: &[u8]) -> Option<u64>
     ensures { result ≡ hertz_of value.now }
 {
@@ -74,7 +75,7 @@ pub(crate) fn hertz_of(value: &[u8]) -> Option<u64>
 }
 
 /// A number up to 65,535 after a beginning.
-#[tactic(auto, unfolding(res_model::specs::Project::number_after))]
+#[tactic(auto, unfolding(crate::specs::Project::number_after))]
 pub(crate) fn number_after(beginning: &[u8], value: &[u8]) -> Option<u64>
     ensures { result ≡ number_after beginning.now value.now }
 {
@@ -85,7 +86,7 @@ pub(crate) fn number_after(beginning: &[u8], value: &[u8]) -> Option<u64>
     }
 }
 
-#[tactic(auto, unfolding(res_model::specs::Project::system_source_of))]
+#[tactic(auto, unfolding(crate::specs::Project::system_source_of))]
 pub(crate) fn system_source_of(value: &[u8]) -> Option<u64>
     ensures { result ≡ system_source_of value.now }
 {
@@ -100,7 +101,7 @@ pub(crate) fn system_source_of(value: &[u8]) -> Option<u64>
     }
 }
 
-#[tactic(auto, unfolding(res_model::specs::Project::pll_source_of))]
+#[tactic(auto, unfolding(crate::specs::Project::pll_source_of))]
 pub(crate) fn pll_source_of(value: &[u8]) -> Option<u64>
     ensures { result ≡ pll_source_of value.now }
 {

@@ -2,11 +2,11 @@
 use Rattle.std.proofs.Common.{◌≡◌, ℕ, zero, suc, ◌+◌, ◌<◌, ◌≤◌, List, [], ◌∷◌, ◌++◌, length, take, true, false, Some, Result, Ok, Err, refl, sym, ap, ◌∙◌, subst, append_assoc, append-nil, get_or, arith}
 use Rattle.std.specs.Prelude.{is_some, slice_get}
 use Rattle.std.proofs.lemmas.Option.{slice_get_read}
-use Rattle.res_model.specs.Lines.{line_at, line_of, with_line, ioc_after}
+use Rattle.ioc_text.specs.Lines.{line_at, line_of, with_line, ioc_after}
 use Rattle.res_model.specs.Steps.{◌>>=◌}
-use Rattle.res_model.specs.declared.fault.IocFault.{IocFault}
-use Rattle.res_model.specs.declared.fault.IocFault.TheVariants.{TwiceKey}
-use Rattle.res_model.specs.declared.line.Line.{Line}
+use Rattle.ioc_text.specs.declared.fault.IocFault.{IocFault}
+use Rattle.ioc_text.specs.declared.fault.IocFault.TheVariants.{TwiceKey}
+use Rattle.ioc_text.specs.declared.line.Line.{Line}
 use Rattle.ioc_text.specs.Index.{once_after, each_once, key_of, key_at, IsEachOnce, IsFirstRepeat}
 
 abbrev Read : Type 0

@@ -18,8 +18,8 @@ use Rattle.std.proofs.lemmas.List.Sorted.{ranks_by, sorted_far, searchable_from_
 use Rattle.std.proofs.lemmas.Map.Text.{is_eq-slice_cmp}
 use Rattle.std.proofs.lemmas.Slice.Eq.{bytes_eq-Decides}
 use Rattle.res_base.proofs.SumLemmas.{bool_cases}
-use Rattle.res_model.specs.Lines.{line_at}
-use Rattle.res_model.specs.declared.line.Line.{Line}
+use Rattle.ioc_text.specs.Lines.{line_at}
+use Rattle.ioc_text.specs.declared.line.Line.{Line}
 use Rattle.ioc_text.specs.Index.{sum_of, key_at, ranked, mark_cmp, mark_of, AreMarks, IsIndex, IsEachOnce, IsFirstRepeat, stood}
 use Rattle.ioc_text.specs.declared.marks.Mark.{Mark}
 use Rattle.ioc_text.proofs.Places.{stood_by, stood_at, found_line, no_line}

@@ -5,8 +5,8 @@ use Rattle.std.specs.Str.{bytes_eq}
 use Rattle.std.proofs.lemmas.Slice.Eq.{bytes_eq-Decides}
 use Rattle.std.proofs.lemmas.Option.{slice_get_within}
 use Rattle.res_base.proofs.SumLemmas.{bool_cases}
-use Rattle.res_model.specs.Lines.{line_at}
-use Rattle.res_model.specs.declared.line.Line.{Line}
+use Rattle.ioc_text.specs.Lines.{line_at}
+use Rattle.ioc_text.specs.declared.line.Line.{Line}
 use Rattle.ioc_text.specs.Index.{key_of, key_at, stood, IsEachOnce}
 
 module _ {X : Type 0} (p : X → Bool) where

@@ -5,10 +5,10 @@ use Rattle.std.specs.List.{All, Contains}
 use Rattle.std.specs.List.Sorted.{IsSortedBy}
 use Rattle.std.specs.Ordering.{is_lt, nat_cmp, ordering_then}
 use Rattle.std.specs.declared.cmp.Ordering.{Ordering}
-use Rattle.res_model.specs.Lines.{line_at, with_line}
+use Rattle.ioc_text.specs.Lines.{line_at, with_line}
 use Rattle.res_model.specs.Steps.{◌>>=◌}
-use Rattle.res_model.specs.declared.fault.IocFault.{IocFault}
-use Rattle.res_model.specs.declared.line.Line.{Line}
+use Rattle.ioc_text.specs.declared.fault.IocFault.{IocFault}
+use Rattle.ioc_text.specs.declared.line.Line.{Line}
 use Rattle.ioc_text.specs.declared.marks.Mark.{Mark}
 use Rattle.ioc_text.specs.declared.marks.TheConstants.{FACTOR}
 

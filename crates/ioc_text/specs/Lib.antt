@@ -1,2 +1,3 @@
-pub use Rattle.res_model.specs.Lines
 pub mod Index
+pub mod IocFaults
+pub mod Lines

@@ -1,11 +1,11 @@
 ghost use Rattle.std.specs.Prelude.{◌≡◌, ◌<◌, false, length, IfSome, MatchResult, MatchBool, ⊤, if◌then◌else◌};
-ghost use Rattle.res_model.specs.Lines.{is_escapable, equals_at, undone};
+ghost use Rattle.ioc_text.specs.Lines.{is_escapable, equals_at, undone};
 ghost use Rattle.std.specs.Prelude.{Some, None};
 
 use std::alloc::AllocError;
 
 /// The place of the `=` that divides a line's key and value.
-#[tactic(auto, unfolding(res_model::specs::Lines::equals_at, res_model::specs::Lines::equals_from))]
+#[tactic(auto, unfolding(crate::specs::Lines::equals_at, crate::specs::Lines::equals_from))]
 pub(crate) fn equals_at(line: &[u8]) -> Option<usize>
     ensures place { result ≡ equals_at line.now }
     ensures within { IfSome result (λ at. at < length line.now) }
@@ -30,7 +30,7 @@ fn is_escapable(b: u8) -> bool
 }
 
 /// Leaves the bytes with escapes undone in `out`, and answers whether each escape is known.
-#[tactic(auto, unfolding(res_model::specs::Lines::undone, res_model::specs::Lines::undone_from))]
+#[tactic(auto, unfolding(crate::specs::Lines::undone, crate::specs::Lines::undone_from))]
 pub(crate) fn undo_into(out: &mut Vec<u8>, bytes: &[u8]) -> Result<bool, AllocError>
     ensures { MatchResult result (λ known. undone bytes.now ≡ (if known then Some out.new.items else None)) (λ _. ⊤) }
 {

@@ -1,8 +1,9 @@
 ghost use Rattle.std.specs.Prelude.{◌≡◌};
 ghost use Rattle.std.specs.Option.{option_copied};
 
+use crate::fault::IocFault;
+use crate::line::Line;
 use crate::marks::{Mark, first_repeat, place_of, sorted_marks};
-use res_model::{IocFault, Line};
 use std::alloc::Global;
 use std::marker::Model;
 
@@ -15,7 +16,7 @@ pub struct Ioc {
 
 impl Model for Ioc {
     ghost use Rattle.std.specs.Prelude.{List};
-    ghost use Rattle.res_model.specs.declared.line.Line.{Line};
+    ghost use Rattle.ioc_text.specs.declared.line.Line.{Line};
 
     ghost Value = { List Line };
 
@@ -27,8 +28,8 @@ impl Model for Ioc {
 }
 
 impl Ioc {
-    ghost use Rattle.res_model.specs.IocFaults.{Gives};
-    ghost use Rattle.res_model.specs.Lines.{line_at};
+    ghost use Rattle.ioc_text.specs.IocFaults.{Gives};
+    ghost use Rattle.ioc_text.specs.Lines.{line_at};
     ghost use Rattle.ioc_text.specs.Index.{each_once};
 
     /// These lines, unless a key stands twice.

@@ -1,5 +1,5 @@
 ghost use Rattle.std.specs.Prelude.{◌≡◌, MatchOption};
-ghost use Rattle.res_model.specs.Lines.{is_named, is_single_key, is_clock_key, is_pin_key, pin_number};
+ghost use Rattle.ioc_text.specs.Lines.{is_named, is_single_key, is_clock_key, is_pin_key, pin_number};
 ghost use Rattle.res_model.specs.Numbers.{number_of};
 
 use res_base::parse_dec;
@@ -12,7 +12,7 @@ fn number_of(text: &[u8]) -> Option<u64>
 }
 
 /// k of a key `Mcu.Pin<k>`, a decimal number with no leading zero, if the key is one.
-#[tactic(auto, unfolding(res_model::specs::Lines::pin_number))]
+#[tactic(auto, unfolding(crate::specs::Lines::pin_number))]
 pub fn pin_number(key: &[u8]) -> Option<u64>
     ensures { result ≡ pin_number key.now }
 {
@@ -23,7 +23,7 @@ pub fn pin_number(key: &[u8]) -> Option<u64>
     }
 }
 
-#[tactic(auto, unfolding(res_model::specs::Lines::is_single_key))]
+#[tactic(auto, unfolding(crate::specs::Lines::is_single_key))]
 fn is_single_key(key: &[u8]) -> bool
     ensures { result ≡ is_single_key key.now }
 {
@@ -33,7 +33,7 @@ fn is_single_key(key: &[u8]) -> bool
         || key == b"KeepUserPlacement".as_slice()
 }
 
-#[tactic(auto, unfolding(res_model::specs::Lines::is_clock_key))]
+#[tactic(auto, unfolding(crate::specs::Lines::is_clock_key))]
 fn is_clock_key(key: &[u8]) -> bool
     ensures { result ≡ is_clock_key key.now }
 {
@@ -49,7 +49,7 @@ fn is_clock_key(key: &[u8]) -> bool
         || key == b"RCC.APB2CLKDivider".as_slice()
 }
 
-#[tactic(auto, unfolding(res_model::specs::Lines::is_pin_key))]
+#[tactic(auto, unfolding(crate::specs::Lines::is_pin_key))]
 fn is_pin_key(key: &[u8]) -> bool
     ensures { result ≡ is_pin_key key.now }
 {
@@ -60,7 +60,7 @@ fn is_pin_key(key: &[u8]) -> bool
 }
 
 /// Whether a key is one of those that are read.
-#[tactic(auto, unfolding(res_model::specs::Lines::is_named))]
+#[tactic(auto, unfolding(crate::specs::Lines::is_named))]
 pub(crate) fn is_named(key: &[u8]) -> bool
     ensures { result ≡ is_named key.now }
 {

@@ -2,16 +2,19 @@
 #![tactic(auto)]
 
 mod escapes;
+mod fault;
 mod ioc;
 mod keys;
+mod line;
 mod lines;
 mod marks;
 mod read;
 
+pub use fault::IocFault;
 pub use ioc::Ioc;
 pub use keys::pin_number;
+pub use line::Line;
 pub use read::read_ioc;
-pub use res_model::{IocFault, Line};
 
 #[cfg(test)]
 mod tests;

@@ -3,10 +3,10 @@ ghost use Rattle.std.specs.Prelude.{◌≡◌, ◌<◌, ◌∷◌, None, MatchOp
 ghost use Rattle.std.specs.Cmp.Lexicographic.{slice_cmp};
 ghost use Rattle.std.specs.Ordering.{nat_cmp};
 ghost use Rattle.std.specs.Str.{bytes_eq};
-ghost use Rattle.res_model.specs.Lines.{line_at};
+ghost use Rattle.ioc_text.specs.Lines.{line_at};
 ghost use Rattle.ioc_text.specs.Index.{next_sum, sum_of, key_at, ranked, mark_cmp, AreMarks, IsIndex, IsEachOnce, IsFirstRepeat};
 
-use res_model::Line;
+use crate::line::Line;
 use std::alloc::{AllocError, Global};
 use std::cmp::Ordering;
 

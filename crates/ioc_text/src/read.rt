@@ -1,14 +1,15 @@
 ghost use Rattle.std.specs.Prelude.{◌≡◌, ◌+◌, ◌<◌, ◌^◌, [], ◌∷◌, Some, length};
-ghost use Rattle.res_model.specs.IocFaults.{Gives};
-ghost use Rattle.res_model.specs.Lines.{equals_at, is_quiet, divided, with_key, with_value, undone, line_of, ioc_of};
+ghost use Rattle.ioc_text.specs.IocFaults.{Gives};
+ghost use Rattle.ioc_text.specs.Lines.{equals_at, is_quiet, divided, with_key, with_value, undone, line_of, ioc_of};
 ghost use Rattle.ioc_text.specs.Index.{first_fault};
 
 use crate::escapes::{equals_at, undo_into};
+use crate::fault::IocFault;
 use crate::ioc::Ioc;
 use crate::keys::is_named;
+use crate::line::Line;
 use crate::lines::first_line;
 use res_base::Items;
-use res_model::{IocFault, Line};
 use std::alloc::Global;
 
 /// The line of a named key, whose value is read.
@@ -61,7 +62,7 @@ fn is_quiet(bytes: &[u8]) -> bool
 }
 
 /// What the line of this number says by itself.
-#[tactic(auto, unfolding(res_model::specs::Lines::line_of))]
+#[tactic(auto, unfolding(crate::specs::Lines::line_of))]
 fn line_of(
     alloc: Global,
     scratch: &mut Vec<u8>,
@@ -93,7 +94,7 @@ fn refused(alloc: Global, lines: Vec<Line>, fault: IocFault) -> Result<Ioc, IocF
 /// Reads the lines of a project's text that have a named key, or the fault of its first faulty line.
 ///
 /// Reading stops at a line with a fault of its own. Whether a key stands twice is asked once, of all lines up to there.
-#[tactic(auto, unfolding(res_model::specs::Lines::ioc_of, res_model::specs::Lines::with_line))]
+#[tactic(auto, unfolding(crate::specs::Lines::ioc_of, crate::specs::Lines::with_line))]
 pub fn read_ioc(alloc: Global, text: &[u8]) -> Result<Ioc, IocFault>
     requires { length text.now < 2 ^ 32 }
     ensures { Gives (λ ioc. ioc) result (ioc_of text.now) }

@@ -2,12 +2,12 @@
 use Rattle.std.proofs.Common.{◌≡◌, ℕ, List, Result, Ok, Err, ap, sym, subst, ◌∙◌}
 use Rattle.std.specs.Prelude.{codes}
 use Rattle.res_model.specs.Steps.{◌>>=◌}
-use Rattle.res_model.specs.Table.{top, number_within, list, distinct_text, text, pin, signal, hse_names, ip, clock, limits, supply, defaults, legal, table}
+use Rattle.mcu_tables.specs.Table.{top, number_within, list, distinct_text, text, pin, signal, hse_names, ip, clock, limits, supply, defaults, legal, table}
 use Rattle.serde_json.specs.Data.{Data}
 use Rattle.mcu_tables.specs.Places.{Refused, Reads}
 use Rattle.mcu_tables.specs.declared.place.Flaw.{Flaw}
 use Rattle.mcu_tables.specs.declared.place.Flaw.TheVariants.{NotJson, Missing, BadField, Repeated, ResetIllegal, Memory}
-use Rattle.res_model.specs.declared.fault.TableFault.{TableFault}
+use Rattle.mcu_tables.specs.declared.fault.TableFault.{TableFault}
 use Rattle.res_model.specs.declared.table.Pin.{Pin}
 use Rattle.res_model.specs.declared.table.TableSignal.{TableSignal}
 use Rattle.res_model.specs.declared.table.Ip.{Ip}

@@ -2,9 +2,10 @@
 use Rattle.std.proofs.Common.{◌≡◌, ℕ, zero, suc, ◌<◌, List, [], ◌∷◌, length, Result, Ok, inl, inr, sym, subst, arith}
 use Rattle.std.specs.Prelude.{slice_index}
 use Rattle.res_base.specs.Lists.{Each, Member}
-use Rattle.res_model.specs.Table.{known_scales, clock}
+use Rattle.res_model.specs.ClockValues.{known_scales}
+use Rattle.mcu_tables.specs.Table.{clock}
 use Rattle.res_model.specs.Valid.{AreDomains}
-use Rattle.res_model.proofs.ClockLaws.{clock_keeps}
+use Rattle.mcu_tables.proofs.ClockLaws.{clock_keeps}
 use Rattle.serde_json.specs.Data.{Data}
 use Rattle.res_model.specs.declared.table.Domains.{Domains}
 

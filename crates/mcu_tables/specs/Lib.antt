@@ -1,4 +1,6 @@
+pub use Rattle.res_model.specs.Valid
+pub mod Json
 pub mod Places
 pub mod Seen
-pub use Rattle.res_model.specs.Table
-pub use Rattle.res_model.specs.Valid
+pub mod Table
+pub mod TableFaults

@@ -1,8 +1,8 @@
 -- The places of faults, and how a path spells them.
 use Rattle.std.specs.Prelude.{◌≡◌, ℕ, List, [], codes, decimal, Result, Ok, Err}
-use Rattle.res_model.specs.Table.{below}
-use Rattle.res_model.specs.declared.fault.TableFault.{TableFault}
-use Rattle.res_model.specs.declared.fault.TableFault.TheVariants as fault
+use Rattle.mcu_tables.specs.Table.{below}
+use Rattle.mcu_tables.specs.declared.fault.TableFault.{TableFault}
+use Rattle.mcu_tables.specs.declared.fault.TableFault.TheVariants as fault
 use Rattle.mcu_tables.specs.declared.place.Key.{Key}
 use Rattle.mcu_tables.specs.declared.place.Key.TheVariants.{Version, Names, Package, Pins, Signals, Name, Use, Ip, Drain, At, HseIn, HseOut, Ips, Clock48, Floor, Marks, Clock, M, N, Q, P, Hpre, Ppre1, Ppre2, Vos, Limits, Crystal, Bypass, VcoIn, Vco, Sysclk, Pclk1, Pclk2, Scales, Max, Flash, From, To, Prefetch, Rows, Defaults, Src, Psrc, Hse}
 use Rattle.mcu_tables.specs.declared.place.Spot.{Spot}

@@ -1,5 +1,6 @@
 ghost use Rattle.std.specs.Prelude.{◌≡◌, ◌≤◌, ◌<◌, List, [], ◌∷◌, codes, map, length, option_map, IfOk};
-ghost use Rattle.res_model.specs.Table.{nested, pair_within, number_within, some_among, one_among, pll_dividers, ahb_dividers, apb_dividers, known_scales, clock, limits};
+ghost use Rattle.res_model.specs.ClockValues.{pll_dividers, ahb_dividers, apb_dividers, known_scales};
+ghost use Rattle.mcu_tables.specs.Table.{nested, pair_within, number_within, some_among, one_among, clock, limits};
 ghost use Rattle.serde_json.specs.View.{view};
 ghost use Rattle.mcu_tables.specs.Places.{spelling, path_of, Reads};
 
@@ -46,7 +47,7 @@ fn pll_list(alloc: Global, root: &Value) -> Result<Items<u16>, Flaw>
 }
 
 /// The domains of the clock variables.
-#[tactic(auto, unfolding(res_model::specs::Table::clock))]
+#[tactic(auto, unfolding(crate::specs::Table::clock))]
 pub fn clock_of(alloc: Global, root: &Value) -> Result<Domains, Flaw>
     ensures { Reads (λ c. c) result (clock (view root.now)) }
 {
@@ -87,7 +88,7 @@ fn limit_number(root: &Value, key: Key, high: u64) -> Result<u64, Flaw>
 }
 
 /// The limits of the clock tree.
-#[tactic(auto, unfolding(res_model::specs::Table::limits))]
+#[tactic(auto, unfolding(crate::specs::Table::limits))]
 pub fn limits_of(root: &Value) -> Result<Bounds, Flaw>
     ensures { Reads (λ b. b) result (limits (view root.now)) }
 {

@@ -1,6 +1,6 @@
 ghost use Rattle.std.specs.Prelude.{◌≡◌, ◌≤◌, ◌<◌, List, [], ◌∷◌, codes, map, length, option_map, option_and_then, IfOk};
 ghost use Rattle.std.specs.Str.{bytes_eq};
-ghost use Rattle.res_model.specs.Table.{nested, object_if_there, below, number_within, number_among, source_of, pll_source_of, source_form, pll_source_form, default_sources, default_factors, default_buses, defaults};
+ghost use Rattle.mcu_tables.specs.Table.{nested, object_if_there, below, number_within, number_among, source_of, pll_source_of, source_form, pll_source_form, default_sources, default_factors, default_buses, defaults};
 ghost use Rattle.serde_json.specs.Find.{get};
 ghost use Rattle.serde_json.specs.View.{view};
 ghost use Rattle.mcu_tables.specs.Places.{spelling, spelled, path_of, Reads};
@@ -11,7 +11,7 @@ use crate::place::{Flaw, Key, Place, Spot};
 use res_model::Domains;
 use serde_json::Value;
 
-#[tactic(auto, unfolding(res_model::specs::Table::source_of))]
+#[tactic(auto, unfolding(crate::specs::Table::source_of))]
 fn source_of(word: &str) -> Option<u64>
     ensures { result ≡ source_of word.now }
 {
@@ -26,7 +26,7 @@ fn source_of(word: &str) -> Option<u64>
     }
 }
 
-#[tactic(auto, unfolding(res_model::specs::Table::pll_source_of))]
+#[tactic(auto, unfolding(crate::specs::Table::pll_source_of))]
 fn pll_source_of(word: &str) -> Option<u64>
     ensures { result ≡ pll_source_of word.now }
 {
@@ -39,7 +39,7 @@ fn pll_source_of(word: &str) -> Option<u64>
     }
 }
 
-#[tactic(auto, unfolding(res_model::specs::Table::source_form))]
+#[tactic(auto, unfolding(crate::specs::Table::source_form))]
 fn source_at(at: Place, value: &Value) -> Result<u64, Flaw>
     ensures { Reads (λ n. n) result (source_form (spelled at) (view value.now)) }
 {
@@ -52,7 +52,7 @@ fn source_at(at: Place, value: &Value) -> Result<u64, Flaw>
     }
 }
 
-#[tactic(auto, unfolding(res_model::specs::Table::pll_source_form))]
+#[tactic(auto, unfolding(crate::specs::Table::pll_source_form))]
 fn pll_source_at(at: Place, value: &Value) -> Result<u64, Flaw>
     ensures { Reads (λ n. n) result (pll_source_form (spelled at) (view value.now)) }
 {
@@ -89,7 +89,7 @@ fn within(root: &Value, key: Key, low: u64, high: u64) -> Result<u64, Flaw>
     )
 }
 
-#[tactic(auto, unfolding(res_model::specs::Table::object_if_there))]
+#[tactic(auto, unfolding(crate::specs::Table::object_if_there))]
 fn check_defaults(root: &Value) -> Result<(), Flaw>
     ensures { Reads (λ u. u) result (object_if_there (path_of (Spot.Top Key.Defaults)) (get (spelling Key.Defaults) (view root.now))) }
 {
@@ -114,7 +114,7 @@ fn psrc_of(root: &Value) -> Result<u64, Flaw>
     pll_source_at(Place::Member(Spot::Nested(Key::Defaults, Key::Psrc)), value)
 }
 
-#[tactic(auto, unfolding(res_model::specs::Table::default_sources))]
+#[tactic(auto, unfolding(crate::specs::Table::default_sources))]
 fn sources_of(root: &Value) -> Result<(u64, u64), Flaw>
     ensures { Reads (λ s. s) result (default_sources (view root.now)) }
 {
@@ -123,7 +123,7 @@ fn sources_of(root: &Value) -> Result<(u64, u64), Flaw>
     Ok((src, psrc))
 }
 
-#[tactic(auto, unfolding(res_model::specs::Table::default_factors))]
+#[tactic(auto, unfolding(crate::specs::Table::default_factors))]
 fn factors_of(clock: &Domains, root: &Value) -> Result<(u64, u64, u64, u64, u64), Flaw>
     ensures { Reads (λ f. f) result (default_factors clock.now (view root.now)) }
 {
@@ -135,7 +135,7 @@ fn factors_of(clock: &Domains, root: &Value) -> Result<(u64, u64, u64, u64, u64)
     Ok((hpre, p, m, n, q))
 }
 
-#[tactic(auto, unfolding(res_model::specs::Table::default_buses))]
+#[tactic(auto, unfolding(crate::specs::Table::default_buses))]
 fn buses_of(clock: &Domains, root: &Value) -> Result<(u64, u64, u64), Flaw>
     ensures { Reads (λ b. b) result (default_buses clock.now (view root.now)) }
 {
@@ -146,7 +146,7 @@ fn buses_of(clock: &Domains, root: &Value) -> Result<(u64, u64, u64), Flaw>
 }
 
 /// The defaults of the clock variables, each in its domain, and the HSE value in hertz.
-#[tactic(auto, unfolding(res_model::specs::Table::defaults))]
+#[tactic(auto, unfolding(crate::specs::Table::defaults))]
 pub fn defaults_of(clock: &Domains, root: &Value) -> Result<([u64; 10], u64), Flaw>
     ensures { Reads (λ d. d) result (defaults clock.now (view root.now)) }
 {

@@ -1,5 +1,5 @@
 ghost use Rattle.std.specs.Prelude.{◌≡◌, ◌≤◌, ◌<◌, ◌==◌, ◌-◌, List, [], ◌∷◌, Some, None, false, map, length, option_map, option_copied, option_and_then, slice_get, slice_index, IfOk, IfSome};
-ghost use Rattle.res_model.specs.Table.{counted, list, entries_after, is_after, flash_from, flash_to, flash_range, scale, scales, number_within, above, flag, need};
+ghost use Rattle.mcu_tables.specs.Table.{counted, list, entries_after, is_after, flash_from, flash_to, flash_range, scale, scales, number_within, above, flag, need};
 ghost use Rattle.serde_json.specs.View.{view};
 ghost use Rattle.mcu_tables.specs.Places.{spelled, path_of, entry_path, Reads};
 
@@ -21,7 +21,7 @@ fn is_after(before: &[FlashRange], n: u64) -> bool
     }
 }
 
-#[tactic(auto, unfolding(res_model::specs::Table::flash_from))]
+#[tactic(auto, unfolding(crate::specs::Table::flash_from))]
 fn from_at(before: &[FlashRange], at: Place, value: &Value) -> Result<u64, Flaw>
     ensures { Reads (λ n. n) result (flash_from before.now (spelled at) (view value.now)) }
 {
@@ -35,7 +35,7 @@ fn from_at(before: &[FlashRange], at: Place, value: &Value) -> Result<u64, Flaw>
     }
 }
 
-#[tactic(auto, unfolding(res_model::specs::Table::flash_to))]
+#[tactic(auto, unfolding(crate::specs::Table::flash_to))]
 fn to_at(from: u64, at: Place, value: &Value) -> Result<u64, Flaw>
     ensures { Reads (λ n. n) result (flash_to from (spelled at) (view value.now)) }
 {
@@ -49,7 +49,7 @@ fn to_at(from: u64, at: Place, value: &Value) -> Result<u64, Flaw>
     }
 }
 
-#[tactic(auto, unfolding(res_model::specs::Table::flash_range))]
+#[tactic(auto, unfolding(crate::specs::Table::flash_range))]
 fn range_at(
     alloc: Global,
     before: &[FlashRange],
@@ -98,7 +98,7 @@ fn each_range(alloc: Global, values: &[Value]) -> Result<Vec<FlashRange>, Flaw>
 }
 
 /// The flash ranges of the table.
-#[tactic(auto, unfolding(res_model::specs::Table::list))]
+#[tactic(auto, unfolding(crate::specs::Table::list))]
 pub fn flash_of(alloc: Global, value: &Value) -> Result<Items<FlashRange>, Flaw>
     ensures { Reads (λ v. v) result (list 0 16 flash_range (path_of (Spot.Top Key.Flash)) (view value.now)) }
 {

@@ -1,6 +1,6 @@
 ghost use Rattle.std.specs.Prelude.{◌≡◌, ◌≤◌, ◌<◌, ◌==◌, List, [], ◌∷◌, Some, map, length, option_map, find, IfOk, IfSome};
-ghost use Rattle.res_model.specs.Json.{is_object};
-ghost use Rattle.res_model.specs.Table.{text, flag, object, number_within, number_among, pair_within};
+ghost use Rattle.mcu_tables.specs.Json.{is_object};
+ghost use Rattle.mcu_tables.specs.Table.{text, flag, object, number_within, number_among, pair_within};
 ghost use Rattle.serde_json.specs.View.{view};
 ghost use Rattle.mcu_tables.specs.Places.{spelled, path_of, Reads};
 
@@ -10,7 +10,7 @@ use res_base::Text;
 use serde_json::Value;
 use std::alloc::Global;
 
-#[tactic(auto, unfolding(res_model::specs::Table::text))]
+#[tactic(auto, unfolding(crate::specs::Table::text))]
 pub fn text_at<'v>(at: Place, value: &'v Value) -> Result<&'v str, Flaw>
     ensures { Reads (λ s. s.now) result (text (spelled at) (view value.now)) }
 {
@@ -20,7 +20,7 @@ pub fn text_at<'v>(at: Place, value: &'v Value) -> Result<&'v str, Flaw>
     }
 }
 
-#[tactic(auto, unfolding(res_model::specs::Table::flag))]
+#[tactic(auto, unfolding(crate::specs::Table::flag))]
 pub fn flag_at(at: Place, value: &Value) -> Result<bool, Flaw>
     ensures { Reads (λ b. b) result (flag (spelled at) (view value.now)) }
 {
@@ -30,7 +30,7 @@ pub fn flag_at(at: Place, value: &Value) -> Result<bool, Flaw>
     }
 }
 
-#[tactic(auto, unfolding(res_model::specs::Table::object))]
+#[tactic(auto, unfolding(crate::specs::Table::object))]
 pub fn check_object(at: Place, value: &Value) -> Result<(), Flaw>
     ensures { Reads (λ _. view value.now) result (object (spelled at) (view value.now)) }
 {
@@ -40,7 +40,7 @@ pub fn check_object(at: Place, value: &Value) -> Result<(), Flaw>
     }
 }
 
-#[tactic(auto, unfolding(res_model::specs::Table::number_within))]
+#[tactic(auto, unfolding(crate::specs::Table::number_within))]
 pub fn number_at(low: u64, high: u64, at: Place, value: &Value) -> Result<u64, Flaw>
     ensures reads { Reads (λ n. n) result (number_within low high (spelled at) (view value.now)) }
     ensures within { IfOk result (λ n. n ≤ high) }
@@ -55,7 +55,7 @@ pub fn number_at(low: u64, high: u64, at: Place, value: &Value) -> Result<u64, F
     }
 }
 
-#[tactic(auto, unfolding(res_model::specs::Table::pair_within))]
+#[tactic(auto, unfolding(crate::specs::Table::pair_within))]
 pub fn pair_at(low: u64, high: u64, at: Place, value: &Value) -> Result<(u64, u64), Flaw>
     ensures reads { Reads (λ p. p) result (pair_within low high (spelled at) (view value.now)) }
     ensures within { IfOk result (λ p. (p.0 ≤ high) × (p.1 ≤ high)) }
@@ -82,7 +82,7 @@ fn same_of(these: &[u16], n: u64) -> Option<u16>
     these.iter().copied().find(|x| u64::from(*x) == n)
 }
 
-#[tactic(auto, unfolding(res_model::specs::Table::number_among))]
+#[tactic(auto, unfolding(crate::specs::Table::number_among))]
 pub fn among_at(these: &[u16], at: Place, value: &Value) -> Result<u16, Flaw>
     ensures { Reads (λ n. n) result (number_among these.now (spelled at) (view value.now)) }
 {

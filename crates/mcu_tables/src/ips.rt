@@ -1,7 +1,7 @@
 ghost use Rattle.std.specs.Prelude.{◌≡◌, ◌≤◌, ◌<◌, ◌==◌, List, [], ◌∷◌, Some, None, false, map, length, option_map, option_and_then, IfOk, IfSome};
 ghost use Rattle.std.specs.List.{list_any};
 ghost use Rattle.std.specs.Str.{bytes_eq};
-ghost use Rattle.res_model.specs.Table.{counted, list, entries_after, need48_of, clock48_form, ip_name, ip, any_text, number_within, may, need};
+ghost use Rattle.mcu_tables.specs.Table.{counted, list, entries_after, need48_of, clock48_form, ip_name, ip, any_text, number_within, may, need};
 ghost use Rattle.serde_json.specs.View.{view};
 ghost use Rattle.mcu_tables.specs.Places.{spelled, path_of, entry_path, Reads};
 
@@ -14,7 +14,7 @@ use res_model::{Ip, Need48};
 use serde_json::Value;
 use std::alloc::Global;
 
-#[tactic(auto, unfolding(res_model::specs::Table::need48_of))]
+#[tactic(auto, unfolding(crate::specs::Table::need48_of))]
 fn need48_of(word: &str) -> Option<Need48>
     ensures { result ≡ need48_of word.now }
 {
@@ -29,7 +29,7 @@ fn need48_of(word: &str) -> Option<Need48>
     }
 }
 
-#[tactic(auto, unfolding(res_model::specs::Table::clock48_form))]
+#[tactic(auto, unfolding(crate::specs::Table::clock48_form))]
 fn clock48_at(at: Place, value: &Value) -> Result<Need48, Flaw>
     ensures { Reads (λ r. r) result (clock48_form (spelled at) (view value.now)) }
 {
@@ -48,7 +48,7 @@ fn has_ip(before: &[Ip], name: &str) -> bool
     before.iter().any(|ip| ip.name.as_str() == name)
 }
 
-#[tactic(auto, unfolding(res_model::specs::Table::ip_name))]
+#[tactic(auto, unfolding(crate::specs::Table::ip_name))]
 fn name_at<'v>(before: &[Ip], at: Place, value: &'v Value) -> Result<&'v str, Flaw>
     ensures { Reads (λ s. s.now) result (ip_name before.now (spelled at) (view value.now)) }
 {
@@ -78,7 +78,7 @@ fn marks_at(alloc: Global, at: Spot, found: Option<&Value>) -> Result<Items<Text
     }
 }
 
-#[tactic(auto, unfolding(res_model::specs::Table::ip))]
+#[tactic(auto, unfolding(crate::specs::Table::ip))]
 fn ip_of(alloc: Global, before: &[Ip], i: usize, value: &Value) -> Result<Ip, Flaw>
     ensures { Reads (λ s. s) result (ip before.now (entry_path Key.Ips i) (view value.now)) }
 {
@@ -124,7 +124,7 @@ fn each_ip(alloc: Global, values: &[Value]) -> Result<Vec<Ip>, Flaw>
 }
 
 /// The IPs of the table.
-#[tactic(auto, unfolding(res_model::specs::Table::list))]
+#[tactic(auto, unfolding(crate::specs::Table::list))]
 pub fn ips_of(alloc: Global, value: &Value) -> Result<Items<Ip>, Flaw>
     ensures { Reads (λ v. v) result (list 0 64 ip (path_of (Spot.Top Key.Ips)) (view value.now)) }
 {

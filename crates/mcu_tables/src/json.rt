@@ -1,10 +1,10 @@
 ghost use Rattle.std.specs.Prelude.{◌≡◌, ◌≤◌, List, [], ◌∷◌, Some, map, length, option_map, codes, IfSome};
 ghost use Rattle.std.specs.List.{list_all};
-ghost use Rattle.res_model.specs.Json.{json_of, is_object, inside, entries, two, number, is_printing, is_word, word};
-ghost use Rattle.res_model.specs.Table.{due};
+ghost use Rattle.mcu_tables.specs.Json.{json_of, is_object, inside, entries, two, number, is_printing, is_word, word};
+ghost use Rattle.mcu_tables.specs.Table.{due};
 ghost use Rattle.serde_json.specs.Find.{get, as_str, as_bool};
 ghost use Rattle.serde_json.specs.View.{view};
-ghost use Rattle.res_model.specs.declared.fault.TableFault.TheVariants as fault;
+ghost use Rattle.mcu_tables.specs.declared.fault.TableFault.TheVariants as fault;
 ghost use Rattle.mcu_tables.specs.Places.{spelling, spelled, path_of, Reads};
 
 use crate::place::{Flaw, Key, Place, Spot};
@@ -12,7 +12,7 @@ use serde_json::Value;
 use std::alloc::Global;
 
 /// The value of the bytes.
-#[tactic(auto, unfolding(res_model::specs::Json::json_of))]
+#[tactic(auto, unfolding(crate::specs::Json::json_of))]
 pub fn value_of(alloc: Global, bytes: &[u8]) -> Result<Value, Flaw>
     ensures { Reads (λ v. view v) result (due fault.NotJson (json_of bytes.now)) }
 {
@@ -37,7 +37,7 @@ pub fn member_of(value: &Value, key: Key) -> Option<&Value>
     value.get(key.spelling())
 }
 
-#[tactic(auto, unfolding(res_model::specs::Json::inside))]
+#[tactic(auto, unfolding(crate::specs::Json::inside))]
 pub fn inside_of(value: &Value, group: Key, key: Key) -> Option<&Value>
     ensures { option_map (λ v. view v.now) result ≡ inside (spelling group) (spelling key) (view value.now) }
 {
@@ -70,7 +70,7 @@ pub fn entries_of(value: &Value) -> Option<&Vec<Value>>
     value.as_array()
 }
 
-#[tactic(auto, unfolding(res_model::specs::Json::two))]
+#[tactic(auto, unfolding(crate::specs::Json::two))]
 pub fn two_of(value: &Value) -> Option<(&Value, &Value)>
     ensures { option_map (λ p. (view p.0.now, view p.1.now)) result ≡ two (view value.now) }
 {
@@ -100,7 +100,7 @@ fn are_printing(bytes: &[u8]) -> bool
     bytes.iter().all(|b| is_printing(*b))
 }
 
-#[tactic(auto, unfolding(res_model::specs::Json::is_word))]
+#[tactic(auto, unfolding(crate::specs::Json::is_word))]
 fn is_word(text: &str) -> bool
     ensures { result ≡ is_word text.now }
 {
@@ -113,7 +113,7 @@ fn is_word(text: &str) -> bool
     are_printing(text.as_bytes())
 }
 
-#[tactic(auto, unfolding(res_model::specs::Json::word))]
+#[tactic(auto, unfolding(crate::specs::Json::word))]
 pub fn word_of(value: &Value) -> Option<&str>
     ensures { option_map (λ s. s.now) result ≡ word (view value.now) }
 {

@@ -3,6 +3,7 @@
 
 mod clock;
 mod defaults;
+mod fault;
 mod flash;
 mod forms;
 mod ips;
@@ -18,8 +19,9 @@ mod signals;
 #[cfg(test)]
 mod tests;
 
+pub use fault::TableFault;
 pub use read::read_tables;
 pub use res_model::{
-    Bounds, Domains, FlashRange, Ip, Mode, Need48, Pin, PinUse, Role, Scale, TableFault,
-    TableParts, TableSignal, Tables,
+    Bounds, Domains, FlashRange, Ip, Mode, Need48, Pin, PinUse, Role, Scale, TableParts,
+    TableSignal, Tables,
 };

@@ -1,7 +1,7 @@
 ghost use Rattle.std.specs.Prelude.{◌≡◌, ◌≤◌, ◌<◌, ◌==◌, ◌-◌, List, [], ◌∷◌, Some, map, length, option_map, option_copied, slice_get, IfOk, IfSome};
 ghost use Rattle.std.specs.List.{list_any};
 ghost use Rattle.std.specs.Str.{bytes_eq};
-ghost use Rattle.res_model.specs.Table.{counted, list, entries_after, any_text, distinct_text, is_above, above, next_among, some_among, one_among};
+ghost use Rattle.mcu_tables.specs.Table.{counted, list, entries_after, any_text, distinct_text, is_above, above, next_among, some_among, one_among};
 ghost use Rattle.serde_json.specs.View.{view};
 ghost use Rattle.mcu_tables.specs.Places.{spelled, path_of, Reads};
 
@@ -13,7 +13,7 @@ use serde_json::Value;
 use std::alloc::Global;
 
 /// The entries of a list of so many.
-#[tactic(auto, unfolding(res_model::specs::Table::counted))]
+#[tactic(auto, unfolding(crate::specs::Table::counted))]
 pub fn counted_at(at: Spot, value: &Value, least: usize, most: usize) -> Result<&Vec<Value>, Flaw>
     ensures reads { Reads (λ v. map view v.now.items) result (counted least most (path_of at) (view value.now)) }
     ensures long { IfOk result (λ v. least ≤ length v.now.items) }
@@ -35,7 +35,7 @@ fn has_text(before: &[Text], name: &str) -> bool
     before.iter().any(|text| text.as_str() == name)
 }
 
-#[tactic(auto, unfolding(res_model::specs::Table::distinct_text))]
+#[tactic(auto, unfolding(crate::specs::Table::distinct_text))]
 fn distinct_at<'v>(before: &[Text], at: Place, value: &'v Value) -> Result<&'v str, Flaw>
     ensures { Reads (λ s. s.now) result (distinct_text before.now (spelled at) (view value.now)) }
 {
@@ -59,7 +59,7 @@ fn each_distinct(alloc: Global, at: Spot, values: &[Value]) -> Result<Vec<Text>,
 }
 
 /// A list of distinct texts.
-#[tactic(auto, unfolding(res_model::specs::Table::list))]
+#[tactic(auto, unfolding(crate::specs::Table::list))]
 pub fn distinct_texts(
     alloc: Global,
     at: Spot,
@@ -73,7 +73,7 @@ pub fn distinct_texts(
     Ok(Items::of(each_distinct(alloc, at, values)?))
 }
 
-#[tactic(auto, unfolding(res_model::specs::Table::any_text))]
+#[tactic(auto, unfolding(crate::specs::Table::any_text))]
 fn each_text(alloc: Global, at: Spot, values: &[Value]) -> Result<Vec<Text>, Flaw>
     ensures { Reads (λ v. v.items) result (entries_after any_text (path_of at) [] (map view values.now)) }
 {
@@ -86,7 +86,7 @@ fn each_text(alloc: Global, at: Spot, values: &[Value]) -> Result<Vec<Text>, Fla
 }
 
 /// A list of texts.
-#[tactic(auto, unfolding(res_model::specs::Table::list))]
+#[tactic(auto, unfolding(crate::specs::Table::list))]
 pub fn texts(alloc: Global, at: Spot, value: &Value, most: usize) -> Result<Items<Text>, Flaw>
     ensures { Reads (λ v. v) result (list 0 most any_text (path_of at) (view value.now)) }
 {
@@ -103,7 +103,7 @@ fn is_above(before: &[u64], n: u64) -> bool
     }
 }
 
-#[tactic(auto, unfolding(res_model::specs::Table::above))]
+#[tactic(auto, unfolding(crate::specs::Table::above))]
 fn above_at(before: &[u64], at: Place, value: &Value) -> Result<u64, Flaw>
     ensures { Reads (λ n. n) result (above before.now (spelled at) (view value.now)) }
 {
@@ -129,7 +129,7 @@ fn each_above(alloc: Global, at: Spot, values: &[Value]) -> Result<Vec<u64>, Fla
 }
 
 /// An ascending list of numbers.
-#[tactic(auto, unfolding(res_model::specs::Table::list))]
+#[tactic(auto, unfolding(crate::specs::Table::list))]
 pub fn ascending(
     alloc: Global,
     at: Spot,
@@ -152,7 +152,7 @@ fn is_next(before: &[u16], n: u16) -> bool
     }
 }
 
-#[tactic(auto, unfolding(res_model::specs::Table::next_among))]
+#[tactic(auto, unfolding(crate::specs::Table::next_among))]
 fn next_at(these: &[u16], before: &[u16], at: Place, value: &Value) -> Result<u16, Flaw>
     ensures { Reads (λ n. n) result (next_among these.now before.now (spelled at) (view value.now)) }
 {
@@ -181,7 +181,7 @@ fn each_among(alloc: Global, these: &[u16], at: Spot, values: &[Value]) -> Resul
 }
 
 /// An ascending list within these numbers, with at least one.
-#[tactic(auto, unfolding(res_model::specs::Table::some_among))]
+#[tactic(auto, unfolding(crate::specs::Table::some_among))]
 pub fn some_among(alloc: Global, these: &[u16], at: Spot, value: &Value) -> Result<Items<u16>, Flaw>
     ensures { Reads (λ v. v) result (some_among these.now (path_of at) (view value.now)) }
 {
@@ -203,7 +203,7 @@ fn has_one(numbers: &[u16]) -> bool
 }
 
 /// An ascending list within these numbers, with 1 in it.
-#[tactic(auto, unfolding(res_model::specs::Table::one_among))]
+#[tactic(auto, unfolding(crate::specs::Table::one_among))]
 pub fn one_among(alloc: Global, these: &[u16], at: Spot, value: &Value) -> Result<Items<u16>, Flaw>
     ensures { Reads (λ v. v) result (one_among these.now (path_of at) (view value.now)) }
 {

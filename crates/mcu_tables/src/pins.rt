@@ -1,7 +1,8 @@
 ghost use Rattle.std.specs.Prelude.{◌≡◌, ◌≤◌, ◌<◌, ◌==◌, List, [], ◌∷◌, Some, map, length, option_map, IfOk, IfSome};
 ghost use Rattle.std.specs.List.{list_any};
 ghost use Rattle.std.specs.Str.{bytes_eq};
-ghost use Rattle.res_model.specs.Table.{counted, list, entries_after, pin, pin_number, ten_and, is_digit, begins_with_digit, spot, is_same_pin, place};
+ghost use Rattle.res_model.specs.PinNames.{pin_number, ten_and, is_digit, begins_with_digit, spot, place};
+ghost use Rattle.mcu_tables.specs.Table.{counted, list, entries_after, pin, is_same_pin};
 ghost use Rattle.serde_json.specs.View.{view};
 ghost use Rattle.mcu_tables.specs.Places.{spelled, path_of, Reads};
 
@@ -32,7 +33,7 @@ fn ten_and(text: &[u8]) -> Option<u8>
     }
 }
 
-#[tactic(auto, unfolding(res_model::specs::Table::pin_number))]
+#[tactic(auto, unfolding(res_model::specs::PinNames::pin_number))]
 fn pin_number(text: &[u8]) -> Option<u8>
     ensures { result ≡ pin_number text.now }
 {
@@ -49,7 +50,7 @@ fn pin_number(text: &[u8]) -> Option<u8>
 }
 
 /// The port and the number of a pin's name.
-#[tactic(auto, unfolding(res_model::specs::Table::spot))]
+#[tactic(auto, unfolding(res_model::specs::PinNames::spot))]
 fn spot_of(name: &[u8]) -> Option<(u8, u8)>
     ensures { result ≡ spot name.now }
 {
@@ -68,7 +69,7 @@ fn has_pin(before: &[Pin], name: &str, port: u8, number: u8) -> bool
     before.iter().any(|pin| pin.name.as_str() == name || pin.port == port && pin.number == number)
 }
 
-#[tactic(auto, unfolding(res_model::specs::Table::pin))]
+#[tactic(auto, unfolding(crate::specs::Table::pin))]
 fn pin_at(alloc: Global, before: &[Pin], at: Place, value: &Value) -> Result<Pin, Flaw>
     ensures { Reads (λ p. p) result (pin before.now (spelled at) (view value.now)) }
 {
@@ -97,7 +98,7 @@ fn each_pin(alloc: Global, values: &[Value]) -> Result<Vec<Pin>, Flaw>
 }
 
 /// The pins of the table.
-#[tactic(auto, unfolding(res_model::specs::Table::list))]
+#[tactic(auto, unfolding(crate::specs::Table::list))]
 pub fn pins_of(alloc: Global, value: &Value) -> Result<Items<Pin>, Flaw>
     ensures reads { Reads (λ v. v) result (list 0 144 pin (path_of (Spot.Top Key.Pins)) (view value.now)) }
     ensures few { IfOk result (λ v. length v ≤ 144) }
@@ -107,7 +108,7 @@ pub fn pins_of(alloc: Global, value: &Value) -> Result<Items<Pin>, Flaw>
 }
 
 /// The place of the pin of this name.
-#[tactic(auto, unfolding(res_model::specs::Table::place))]
+#[tactic(auto, unfolding(res_model::specs::PinNames::place))]
 pub fn place_of(pins: &[Pin], name: &str) -> Option<usize>
     ensures place { result ≡ place pins.now name.now }
     ensures within { IfSome result (λ i. i < length pins.now) }

@@ -1,9 +1,9 @@
 ghost use Rattle.std.specs.Prelude.{◌≡◌, ◌⊎◌, ◌++◌, [], ◌∷◌, decimal, IfOk, OnOk, string_bytes};
-ghost use Rattle.res_model.specs.Table.{below};
+ghost use Rattle.mcu_tables.specs.Table.{below};
 ghost use Rattle.mcu_tables.specs.Places.{spelling, path_of, spelled, fault_of};
 
+use crate::fault::TableFault;
 use res_base::{OutOfMemory, Text};
-use res_model::TableFault;
 use std::alloc::{AllocError, AllocFailed, Global};
 
 /// The name of a member of the table.

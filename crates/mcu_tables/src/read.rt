@@ -1,15 +1,16 @@
 ghost use Rattle.std.specs.Prelude.{◌≡◌, ◌≤◌, ◌<◌, ℕ, List, codes, length, slice_index, IfOk};
 ghost use Rattle.res_base.specs.Lists.{Each};
-ghost use Rattle.res_model.specs.TableFaults.{Gives};
+ghost use Rattle.mcu_tables.specs.TableFaults.{Gives};
 ghost use Rattle.res_model.specs.Valid.{IsValid};
-ghost use Rattle.res_model.specs.declared.fault.TableFault.TheVariants as fault;
+ghost use Rattle.mcu_tables.specs.declared.fault.TableFault.TheVariants as fault;
 ghost use Rattle.serde_json.specs.Find.{get};
-ghost use Rattle.res_model.specs.Table.{due, top, number_within, list, distinct_text, text, pin, signal, ip, clock, limits, scales, flash_range, defaults, reset_fault, unless_illegal, legal, hse_names, supply, table, tables_of};
+ghost use Rattle.mcu_tables.specs.Table.{due, top, number_within, list, distinct_text, text, pin, signal, ip, clock, limits, scales, flash_range, defaults, reset_fault, unless_illegal, legal, hse_names, supply, table, tables_of};
 ghost use Rattle.serde_json.specs.View.{view};
 ghost use Rattle.mcu_tables.specs.Places.{spelling, spelled, path_of, Reads};
 
 use crate::clock::{clock_of, limits_of};
 use crate::defaults::defaults_of;
+use crate::fault::TableFault;
 use crate::flash::flash_of;
 use crate::forms::{number_at, text_at};
 use crate::ips::ips_of;
@@ -21,7 +22,7 @@ use crate::reset::reset_fault;
 use crate::scales::scales_of;
 use crate::signals::signals_of;
 use res_base::{Items, Text};
-use res_model::{FlashRange, Ip, Pin, Scale, TableFault, TableParts, TableSignal, Tables};
+use res_model::{FlashRange, Ip, Pin, Scale, TableParts, TableSignal, Tables};
 use serde_json::Value;
 use std::alloc::Global;
 
@@ -78,7 +79,7 @@ fn ips(alloc: Global, root: &Value) -> Result<Items<Ip>, Flaw>
 }
 
 /// The names of the signals of the oscillator's pins.
-#[tactic(auto, unfolding(res_model::specs::Table::hse_names))]
+#[tactic(auto, unfolding(crate::specs::Table::hse_names))]
 fn hse_names(alloc: Global, root: &Value) -> Result<(Text, Text), Flaw>
     ensures { Reads (λ p. p) result (hse_names (view root.now)) }
 {
@@ -103,7 +104,7 @@ fn flash(alloc: Global, root: &Value) -> Result<Items<FlashRange>, Flaw>
 }
 
 /// What the supply allows: the scales and the flash ranges.
-#[tactic(auto, unfolding(res_model::specs::Table::supply))]
+#[tactic(auto, unfolding(crate::specs::Table::supply))]
 fn supply(
     alloc: Global,
     vos: &[u16],
@@ -117,7 +118,7 @@ fn supply(
     Ok((scales, flash))
 }
 
-#[tactic(auto, unfolding(res_model::specs::Table::legal))]
+#[tactic(auto, unfolding(crate::specs::Table::legal))]
 fn legal(parts: TableParts) -> Result<TableParts, Flaw>
     ensures { Reads (λ t. t) result (legal parts) }
 {
@@ -127,7 +128,7 @@ fn legal(parts: TableParts) -> Result<TableParts, Flaw>
     }
 }
 
-#[tactic(auto, unfolding(res_model::specs::Table::table))]
+#[tactic(auto, unfolding(crate::specs::Table::table))]
 fn table(alloc: Global, root: &Value) -> Result<TableParts, Flaw>
     ensures { Reads (λ t. t) result (table (view root.now)) }
 {
@@ -159,7 +160,7 @@ fn table(alloc: Global, root: &Value) -> Result<TableParts, Flaw>
     })
 }
 
-#[tactic(auto, unfolding(res_model::specs::Table::tables_of))]
+#[tactic(auto, unfolding(crate::specs::Table::tables_of))]
 fn parts_of(alloc: Global, bytes: &[u8]) -> Result<TableParts, Flaw>
     ensures { Reads (λ t. t) result (tables_of bytes.now) }
 {

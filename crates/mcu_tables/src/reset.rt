@@ -1,6 +1,7 @@
 ghost use Rattle.std.specs.Prelude.{◌≡◌, ◌≤◌, ◌<◌, List, [], ◌∷◌, length, nat_lt, slice_index};
 ghost use Rattle.std.specs.List.{list_any};
-ghost use Rattle.res_model.specs.Table.{reset_fault, hsi};
+ghost use Rattle.res_model.specs.ClockValues.{hsi};
+ghost use Rattle.mcu_tables.specs.Table.{reset_fault};
 
 use res_model::{FlashRange, Scale, TableParts};
 
@@ -31,7 +32,7 @@ fn has_low_row(ranges: &[FlashRange]) -> bool
 }
 
 /// The least limit that the state after reset would break.
-#[tactic(auto, unfolding(res_model::specs::Table::reset_fault))]
+#[tactic(auto, unfolding(crate::specs::Table::reset_fault))]
 pub fn reset_fault(parts: &TableParts) -> Option<u8>
     ensures { result ≡ reset_fault parts.now }
 {

@@ -1,6 +1,6 @@
 ghost use Rattle.std.specs.Prelude.{◌≡◌, ◌≤◌, ◌<◌, ◌==◌, List, [], ◌∷◌, Some, map, length, option_map, IfOk, IfSome};
 ghost use Rattle.std.specs.List.{list_any};
-ghost use Rattle.res_model.specs.Table.{counted, list, entries_after, pin_named, row, alt_row, pin_row, no_rows, rows, may, need};
+ghost use Rattle.mcu_tables.specs.Table.{counted, list, entries_after, pin_named, row, alt_row, pin_row, no_rows, rows, may, need};
 ghost use Rattle.serde_json.specs.View.{view};
 ghost use Rattle.mcu_tables.specs.Places.{spelled, path_of, entry_path, Reads};
 
@@ -15,7 +15,7 @@ use serde_json::Value;
 use std::alloc::Global;
 
 /// The place of the pin that a value names.
-#[tactic(auto, unfolding(res_model::specs::Table::pin_named))]
+#[tactic(auto, unfolding(crate::specs::Table::pin_named))]
 fn pin_named(pins: &[Pin], value: &Value) -> Option<u8>
     requires { length pins.now ≤ 144 }
     ensures { result ≡ pin_named pins.now (view value.now) }
@@ -46,7 +46,7 @@ fn row_at(before: &[PinUse], at: Place, pin: Option<u8>, mode: Mode) -> Result<P
     }
 }
 
-#[tactic(auto, unfolding(res_model::specs::Table::alt_row))]
+#[tactic(auto, unfolding(crate::specs::Table::alt_row))]
 fn alt_row(pins: &[Pin], before: &[PinUse], at: Place, value: &Value) -> Result<PinUse, Flaw>
     requires { length pins.now ≤ 144 }
     ensures { Reads (λ u. u) result (alt_row pins.now before.now (spelled at) (view value.now)) }
@@ -78,7 +78,7 @@ fn each_alt_row(
     Ok(found)
 }
 
-#[tactic(auto, unfolding(res_model::specs::Table::list))]
+#[tactic(auto, unfolding(crate::specs::Table::list))]
 fn alt_rows(alloc: Global, pins: &[Pin], at: Spot, value: &Value) -> Result<Items<PinUse>, Flaw>
     requires { length pins.now ≤ 144 }
     ensures { Reads (λ v. v) result (list 1 16 (alt_row pins.now) (path_of at) (view value.now)) }
@@ -87,7 +87,7 @@ fn alt_rows(alloc: Global, pins: &[Pin], at: Spot, value: &Value) -> Result<Item
     Ok(Items::of(each_alt_row(alloc, pins, at, values)?))
 }
 
-#[tactic(auto, unfolding(res_model::specs::Table::pin_row))]
+#[tactic(auto, unfolding(crate::specs::Table::pin_row))]
 fn pin_row(
     pins: &[Pin],
     mode: Mode,
@@ -125,7 +125,7 @@ fn each_pin_row(
     Ok(found)
 }
 
-#[tactic(auto, unfolding(res_model::specs::Table::list))]
+#[tactic(auto, unfolding(crate::specs::Table::list))]
 fn pin_rows(
     alloc: Global,
     pins: &[Pin],
@@ -156,7 +156,7 @@ fn analog_rows(
     }
 }
 
-#[tactic(auto, unfolding(res_model::specs::Table::no_rows))]
+#[tactic(auto, unfolding(crate::specs::Table::no_rows))]
 fn no_rows(alloc: Global, at: Spot, found: Option<&Value>) -> Result<Items<PinUse>, Flaw>
     ensures { Reads (λ v. v) result (may no_rows [] (path_of at) (option_map (λ v. view v.now) found.entry)) }
 {
@@ -167,7 +167,7 @@ fn no_rows(alloc: Global, at: Spot, found: Option<&Value>) -> Result<Items<PinUs
 }
 
 /// The rows of signal i, by its role.
-#[tactic(auto, unfolding(res_model::specs::Table::rows))]
+#[tactic(auto, unfolding(crate::specs::Table::rows))]
 pub fn rows_of(
     alloc: Global,
     pins: &[Pin],

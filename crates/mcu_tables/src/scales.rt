@@ -1,5 +1,5 @@
 ghost use Rattle.std.specs.Prelude.{◌≡◌, ◌≤◌, ◌<◌, ℕ, List, [], ◌∷◌, map, length, slice_index};
-ghost use Rattle.res_model.specs.Table.{counted, list, entries_after, scale, scales, number_within, need};
+ghost use Rattle.mcu_tables.specs.Table.{counted, list, entries_after, scale, scales, number_within, need};
 ghost use Rattle.serde_json.specs.View.{view};
 ghost use Rattle.mcu_tables.specs.Places.{spelled, path_of, entry_path, Reads};
 
@@ -13,7 +13,7 @@ use serde_json::Value;
 use std::alloc::Global;
 
 /// The scale that is due after those before it.
-#[tactic(auto, unfolding(res_model::specs::Table::scale))]
+#[tactic(auto, unfolding(crate::specs::Table::scale))]
 fn scale_at(vos: &[u16], before: &[Scale], value: &Value) -> Result<Scale, Flaw>
     requires due { length before.now < length vos.now }
     requires small { slice_index vos.now (length before.now) < 256 }
@@ -56,7 +56,7 @@ fn each_scale(alloc: Global, vos: &[u16], values: &[Value]) -> Result<Vec<Scale>
 }
 
 /// The scales of the table, one for each of the clock's.
-#[tactic(auto, unfolding(res_model::specs::Table::list))]
+#[tactic(auto, unfolding(crate::specs::Table::list))]
 pub fn scales_of(alloc: Global, vos: &[u16], value: &Value) -> Result<Items<Scale>, Flaw>
     requires small { (k : ℕ) → k < length vos.now → slice_index vos.now k < 256 }
     ensures { Reads (λ v. v) result (scales vos.now (path_of (Spot.Top Key.Scales)) (view value.now)) }

@@ -1,7 +1,7 @@
 ghost use Rattle.std.specs.Prelude.{◌≡◌, ◌≤◌, ◌<◌, ◌==◌, List, [], ◌∷◌, Some, None, false, map, length, option_map, option_and_then, IfOk, IfSome, codes};
 ghost use Rattle.std.specs.List.{list_any};
 ghost use Rattle.std.specs.Str.{bytes_eq};
-ghost use Rattle.res_model.specs.Table.{counted, list, entries_after, role_of, use_form, real_name, signal_name, some_text, signal, flag, may, need, member};
+ghost use Rattle.mcu_tables.specs.Table.{counted, list, entries_after, role_of, use_form, real_name, signal_name, some_text, signal, flag, may, need, member};
 ghost use Rattle.mcu_tables.specs.Seen.{AreSeen};
 ghost use Rattle.serde_json.specs.View.{view};
 ghost use Rattle.mcu_tables.specs.Places.{spelled, path_of, entry_path, Reads};
@@ -17,7 +17,7 @@ use serde_json::Value;
 use std::alloc::Global;
 use std::collections::BTreeMap;
 
-#[tactic(auto, unfolding(res_model::specs::Table::role_of))]
+#[tactic(auto, unfolding(crate::specs::Table::role_of))]
 fn role_of(word: &str) -> Option<Role>
     ensures { result ≡ role_of word.now }
 {
@@ -38,7 +38,7 @@ fn role_of(word: &str) -> Option<Role>
     }
 }
 
-#[tactic(auto, unfolding(res_model::specs::Table::use_form))]
+#[tactic(auto, unfolding(crate::specs::Table::use_form))]
 fn role_at(at: Place, value: &Value) -> Result<Role, Flaw>
     ensures { Reads (λ r. r) result (use_form (spelled at) (view value.now)) }
 {
@@ -51,7 +51,7 @@ fn role_at(at: Place, value: &Value) -> Result<Role, Flaw>
     }
 }
 
-#[tactic(auto, unfolding(res_model::specs::Table::real_name))]
+#[tactic(auto, unfolding(crate::specs::Table::real_name))]
 fn real_name_at<'v>(at: Place, value: &'v Value) -> Result<&'v str, Flaw>
     ensures { Reads (λ s. s.now) result (real_name (spelled at) (view value.now)) }
 {
@@ -64,7 +64,7 @@ fn real_name_at<'v>(at: Place, value: &'v Value) -> Result<&'v str, Flaw>
 }
 
 /// The name of the next signal; `seen` holds the names of those before.
-#[tactic(auto, unfolding(res_model::specs::Table::signal_name))]
+#[tactic(auto, unfolding(crate::specs::Table::signal_name))]
 fn name_of<'v>(
     before: &[TableSignal],
     seen: &BTreeMap<String, ()>,
@@ -83,7 +83,7 @@ fn name_of<'v>(
     }
 }
 
-#[tactic(auto, unfolding(res_model::specs::Table::some_text))]
+#[tactic(auto, unfolding(crate::specs::Table::some_text))]
 fn ip_at(alloc: Global, at: Spot, found: Option<&Value>) -> Result<Option<Text>, Flaw>
     ensures { Reads (λ o. o) result (may some_text None (path_of at) (option_map (λ v. view v.now) found.entry)) }
 {
@@ -102,7 +102,7 @@ fn drain_at(at: Spot, found: Option<&Value>) -> Result<bool, Flaw>
     }
 }
 
-#[tactic(auto, unfolding(res_model::specs::Table::signal))]
+#[tactic(auto, unfolding(crate::specs::Table::signal))]
 fn signal_at(
     alloc: Global,
     pins: &[Pin],
@@ -154,7 +154,7 @@ fn each_signal(alloc: Global, pins: &[Pin], values: &[Value]) -> Result<Vec<Tabl
 }
 
 /// The signals of the table.
-#[tactic(auto, unfolding(res_model::specs::Table::list))]
+#[tactic(auto, unfolding(crate::specs::Table::list))]
 pub fn signals_of(alloc: Global, pins: &[Pin], value: &Value) -> Result<Items<TableSignal>, Flaw>
     requires { length pins.now ≤ 144 }
     ensures { Reads (λ v. v) result (list 0 2000 (signal pins.now) (path_of (Spot.Top Key.Signals)) (view value.now)) }

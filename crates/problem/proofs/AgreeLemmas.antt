@@ -11,7 +11,7 @@ use Rattle.pin_rules.specs.Sizes.{IsSized}
 use Rattle.pin_rules.proofs.SizeLemmas as sizes
 use Rattle.res_model.specs.Clock.{AreFacts, facts_of}
 use Rattle.res_model.specs.Placed.{IsPlaced}
-use Rattle.res_model.specs.Project.{fixes_clock, domain_tests}
+use Rattle.ioc_project.specs.Project.{fixes_clock, domain_tests}
 use Rattle.res_model.specs.Signals.{signal_named, rows_of, own_mode}
 use Rattle.res_model.specs.Valid.{IsValid, IsModeOf, IsSignal}
 use Rattle.res_model.specs.Placement.{is_exti}
@@ -20,7 +20,7 @@ use Rattle.res_model.specs.declared.table.Role.TheVariants as role
 use Rattle.res_model.specs.declared.table.Mode.TheVariants as mode
 use Rattle.res_model.specs.Values.{rows_at, rows_elsewhere, use_at, placed, values_from, values_of, pin_values, pin_variables}
 use Rattle.res_model.specs.declared.clock.Facts.{Facts}
-use Rattle.res_model.specs.declared.command.Opts.{Opts}
+use Rattle.res_model.specs.declared.opts.Opts.{Opts}
 use Rattle.res_model.specs.declared.project.Project.{Project}
 use Rattle.res_model.specs.declared.project.Signal.{Signal}
 use Rattle.res_model.specs.declared.table.Mode.{Mode}

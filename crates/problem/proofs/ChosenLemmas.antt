@@ -10,7 +10,7 @@ use Rattle.choice_rank.specs.Choices.{IsChoice}
 use Rattle.choice_rank.specs.declared.variable.VarShape.{VarShape}
 use Rattle.res_model.specs.Clock.{IsBetween, IsInRange, IsOscillator}
 use Rattle.res_model.specs.Placement.{uses_at}
-use Rattle.res_model.specs.Ranges.{values_at}
+use Rattle.clock_limits.specs.Ranges.{values_at}
 use Rattle.res_model.specs.Valid.{IsValid}
 use Rattle.res_model.specs.declared.table.PinUse.{PinUse}
 use Rattle.problem.specs.declared.parts.ProblemParts.{ProblemParts}

@@ -4,7 +4,7 @@ use Rattle.std.proofs.lemmas.Bool.Decides.{nat_tests}
 use Rattle.std.specs.Prelude.{Ok, nat_lt, nat_le, ◌&&◌}
 use Rattle.res_base.specs.Lists.{Each, Member}
 use Rattle.res_base.proofs.ListLemmas.{each_map}
-use Rattle.res_model.specs.Project.{domain_tests, all_within, is_among, is_within}
+use Rattle.ioc_project.specs.Project.{domain_tests, all_within, is_among, is_within}
 use Rattle.res_model.specs.declared.project.Home.{Home}
 use Rattle.res_model.specs.declared.table.TableParts.{TableParts}
 use Rattle.problem.specs.ClockValues.{numbers_from, between, clock_domains, clock_values}

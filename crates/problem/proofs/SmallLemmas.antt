@@ -3,7 +3,7 @@ use Rattle.std.proofs.Common.{◌≡◌, ℕ, ◌+◌, ◌<◌, ◌≤◌, List,
 use Rattle.std.specs.Prelude.{codes, slice_index}
 use Rattle.res_model.specs.Placed.{IsPlaced, is_held, rows_named}
 use Rattle.res_model.specs.Signals.{signal_named}
-use Rattle.res_model.specs.Table.{spot, pin_number}
+use Rattle.res_model.specs.PinNames.{spot, pin_number}
 use Rattle.res_model.specs.Valid.{IsValid, IsText, IsPin, AreTwoPins, AreRows, IsSignal, AreDomains, AreBounds, IsFlashRange}
 use Rattle.res_model.specs.declared.project.Signal.{Signal}
 use Rattle.res_model.specs.declared.table.Role.TheVariants as role

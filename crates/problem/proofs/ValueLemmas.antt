@@ -7,9 +7,9 @@ use Rattle.res_base.specs.Lists.{Each, Member, Pairwise}
 use Rattle.res_base.proofs.ListLemmas.{each_map, each_in}
 use Rattle.choice_rank.specs.Choices.{HasPositions, HasSmallSizes}
 use Rattle.res_model.specs.Clock.{IsBetween}
-use Rattle.res_model.specs.Project.{domain_tests, all_within, is_among, is_within}
-use Rattle.res_model.specs.Ranges.{AreInRange, values_at}
-use Rattle.res_model.specs.Table.{ahb_dividers, apb_dividers, pll_dividers, known_scales}
+use Rattle.ioc_project.specs.Project.{domain_tests, all_within, is_among, is_within}
+use Rattle.clock_limits.specs.Ranges.{AreInRange, values_at}
+use Rattle.res_model.specs.ClockValues.{ahb_dividers, apb_dividers, pll_dividers, known_scales}
 use Rattle.res_model.specs.Valid.{AreDomains, AreAmong, IsRange}
 use Rattle.res_model.specs.declared.project.Home.{Home}
 use Rattle.res_model.specs.declared.table.TableParts.{TableParts}

@@ -6,7 +6,7 @@ use Rattle.choice_rank.specs.declared.variable.VarShape.{VarShape}
 use Rattle.choice_rank.specs.declared.shape.ShapeFault.{ShapeFault}
 use Rattle.choice_rank.specs.declared.shape.ShapeFault.TheVariants.{TooWide, Memory}
 use Rattle.choice_rank.specs.Choices.{IsNarrow, IsFirstWide, IsShape}
-use Rattle.res_model.specs.declared.command.Opts.{Opts}
+use Rattle.res_model.specs.declared.opts.Opts.{Opts}
 use Rattle.res_model.specs.declared.project.Project.{Project}
 use Rattle.res_model.specs.declared.table.Mode.{Mode}
 use Rattle.res_model.specs.declared.table.Mode.TheVariants as mode
@@ -14,8 +14,8 @@ use Rattle.res_model.specs.declared.table.PinUse.{PinUse}
 use Rattle.res_model.specs.declared.table.TableParts.{TableParts}
 use Rattle.res_model.specs.Clock.{AreFacts, facts_of}
 use Rattle.res_model.specs.Placement.{is_exti}
-use Rattle.res_model.specs.Project.{all_within, domain_tests, fixes_clock}
-use Rattle.res_model.specs.Ranges.{AreInRange}
+use Rattle.ioc_project.specs.Project.{all_within, domain_tests, fixes_clock}
+use Rattle.clock_limits.specs.Ranges.{AreInRange}
 use Rattle.res_model.specs.Values.{pin_values, pin_variables}
 use Rattle.problem.specs.declared.parts.Part.{Part}
 use Rattle.problem.specs.declared.parts.Part.TheVariants.{PinsOnly, Whole}

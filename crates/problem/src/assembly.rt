@@ -3,7 +3,7 @@ ghost use Rattle.res_base.specs.Lists.{Each};
 ghost use Rattle.choice_rank.specs.Choices.{IsNarrow, HasPositions, HasSmallSizes};
 ghost use Rattle.pin_rules.specs.Sizes.{IsSized};
 ghost use Rattle.res_model.specs.Placed.{IsPlaced};
-ghost use Rattle.res_model.specs.Project.{all_within, domain_tests, fixes_clock};
+ghost use Rattle.ioc_project.specs.Project.{all_within, domain_tests, fixes_clock};
 ghost use Rattle.res_model.specs.Values.{pin_values};
 ghost use Rattle.problem.specs.ClockValues.{clock_domains, clock_values, clock_variables};
 ghost use Rattle.problem.specs.Problem.{IsRefused, IsProblem, AreHomesDue, clock_of, clock_shape, first_of, problem_of, shape_of};

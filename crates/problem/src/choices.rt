@@ -3,7 +3,7 @@ ghost use Rattle.std.specs.Prelude.{◌≡◌, ◌≢◌, ◌≤◌, ◌<◌, �
 ghost use Rattle.res_model.specs.Clock.{IsInRange};
 ghost use Rattle.res_model.specs.Limits.{broken_limit};
 ghost use Rattle.res_model.specs.Placement.{fits, uses_at};
-ghost use Rattle.res_model.specs.Ranges.{values_at};
+ghost use Rattle.clock_limits.specs.Ranges.{values_at};
 ghost use Rattle.problem.specs.ClockValues.{clock_at, clock_value, source_of};
 ghost use Rattle.problem.specs.Meets.{meets, places_of, use_of};
 ghost use Rattle.problem.specs.Problem.{IsProblem};

@@ -13,7 +13,7 @@ use Rattle.refutation.specs.declared.node.ProofFault.{ProofFault}
 use Rattle.refutation.specs.declared.node.ProofFault.TheVariants as fault
 use Rattle.refutation.specs.Forms.{Form, SplitForm, HallForm, LimitForm, RankForm, WitnessForm, due_after, takes_up, IsAscending, FitsForm, FitsBound}
 use Rattle.refutation.specs.Spelling.{spaced, form_text, bound_text, lines_text, forms_text, spelling}
-use Rattle.refutation.specs.Reading.{onto_line, lines_of, fields, number_below, number_from, variables_from, split_form, hall_form, limit_form, form_of_text, bound_of_text, with_front, with_bound, forms_from, bound_from, proof_from, proof_of, IsPassedOver}
+use Rattle.refutation.specs.Reading.{onto_line, lines_of, line_after, fields, number_below, number_from, variables_from, split_form, hall_form, limit_form, form_of_text, bound_of_text, with_front, with_bound, forms_from, bound_from, proof_from, proof_of, IsPassedOver}
 use Rattle.refutation.proofs.FormLemmas.{append_nil}
 use Rattle.refutation.proofs.NumberLemmas.{number_is}
 
@@ -145,8 +145,8 @@ forms_read (f ∷ fs) number (suc due) h t =
     let left = (both_true (ltb 0 (suc due)) (takes_up (due_after (suc due) f) fs) t).1 in
     ap (λ xs. forms_from number (suc due) (lines_of xs)) (append_assoc (form_text f) (10 ∷ forms_text fs) last_text)
     ∙ ap (forms_from number (suc due)) (line_then (form_text f) rest (form_clean f h.0))
-    ∙ ap (λ (o : Option Form). option_map_or (λ f. with_front (f ∷ []) (forms_from (number + 1) (due_after (suc due) f) (lines_of rest))) o (Err (fault.Line number))) (form_read f h.0)
-    ∙ ap (with_front (f ∷ [])) (forms_read fs (number + 1) (due_after (suc due) f) h.1 left)
+    ∙ ap (λ (o : Option Form). option_map_or (λ f. with_front (f ∷ []) (forms_from (line_after number) (due_after (suc due) f) (lines_of rest))) o (Err (fault.Line number))) (form_read f h.0)
+    ∙ ap (with_front (f ∷ [])) (forms_read fs (line_after number) (due_after (suc due) f) h.1 left)
 
 -- ---- the bound
 bound_read : (bound : Option ℕ) → FitsBound bound → bound_of_text (bound_text bound) ≡ Some bound
@@ -168,16 +168,16 @@ unfolding spelling last_text
 proof_read number bound forms b h t =
     let rest = forms_text forms ++ last_text in
     ap (proof_from number) (line_then (codes "proof 1") (bound_text bound ++ 10 ∷ rest) (refl, (refl, (refl, (refl, (refl, (refl, (refl, tt))))))))
-    ∙ ap (bound_from (number + 1)) (line_then (bound_text bound) rest (bound_clean bound b))
-    ∙ ap (λ (o : Option (Option ℕ)). option_map_or (λ bound. with_bound bound (forms_from (number + 1 + 1) 1 (lines_of rest))) o (Err (fault.Line (number + 1)))) (bound_read bound b)
-    ∙ ap (with_bound bound) (forms_read forms (number + 1 + 1) 1 h t)
+    ∙ ap (bound_from (line_after number)) (line_then (bound_text bound) rest (bound_clean bound b))
+    ∙ ap (λ (o : Option (Option ℕ)). option_map_or (λ bound. with_bound bound (forms_from (line_after (line_after number)) 1 (lines_of rest))) o (Err (fault.Line (line_after number)))) (bound_read bound b)
+    ∙ ap (with_bound bound) (forms_read forms (line_after (line_after number)) 1 h t)
 
 passed_read : (before : List (List ℕ)) (rest : List ℕ) (read : Result (Option ℕ × List Form) ProofFault) → Each IsPassedOver before → ((number : ℕ) → proof_from number (lines_of rest) ≡ read) → (number : ℕ) → proof_from number (lines_of (lines_text before ++ rest)) ≡ read
 passed_read [] rest read h f number = f number
 passed_read (l ∷ ls) rest read h f number =
     ap (λ xs. proof_from number (lines_of xs)) (append_assoc l (10 ∷ lines_text ls) rest)
     ∙ ap (proof_from number) (line_then l (lines_text ls ++ rest) h.0.0)
-    ∙ rw h.0.1 (passed_read ls rest read h.1 f (number + 1))
+    ∙ rw h.0.1 (passed_read ls rest read h.1 f (line_after number))
 
 pub read_again : (before : List (List ℕ)) (bound : Option ℕ) (forms : List Form) → Each IsPassedOver before → FitsBound bound → Each FitsForm forms → takes_up 1 forms ≡ true → proof_of (lines_text before ++ spelling bound forms) ≡ Ok (bound, forms)
 unfolding proof_of

@@ -7,7 +7,7 @@ use Rattle.std.proofs.lemmas.Grind.{common_steps}
 use Rattle.std.proofs.lemmas.List.Splits.{slice_split_first}
 use Rattle.res_base.proofs.SumLemmas.{bool_cases}
 use Rattle.refutation.specs.declared.node.ProofFault.TheVariants as fault
-use Rattle.refutation.specs.Reading.{Line, onto_line, lines_of, is_text, is_space, fields, split_form, forms_from}
+use Rattle.refutation.specs.Reading.{Line, onto_line, lines_of, line_after, is_text, is_space, fields, split_form, forms_from}
 
 found_place : (at len : ℕ) (i : ℕ) → cond (ltb at len) (Some at) None ≡ Some i → (at ≡ i) × (at < len)
 found_place at len i e = elim (bool_cases (ltb at len)) [
@@ -107,9 +107,9 @@ some_line (c ∷ cs) h = elim (bool_cases (eqb c 10)) [
 ]
 
 -- what stands behind the last line
-pub past_end : (number : ℕ) (line text : List ℕ) (ls : List Line) → ls ≡ record { text = line; ended = true } ∷ lines_of text → is_text (codes "end") (record { text = line; ended = true }) ≡ true → 0 < length text → forms_from number 0 ls ≡ Err (fault.Line (number + 1))
+pub past_end : (number : ℕ) (line text : List ℕ) (ls : List Line) → ls ≡ record { text = line; ended = true } ∷ lines_of text → is_text (codes "end") (record { text = line; ended = true }) ≡ true → 0 < length text → forms_from number 0 ls ≡ Err (fault.Line (line_after number))
 past_end number line text ls e t h =
     let s = some_line text h in
     let first : Line = record { text = line; ended = true } in
     ap (forms_from number 0) (e ∙ ap (λ ms. first ∷ ms) s.2)
-    ∙ ap (λ b. cond b (Err (fault.Line (number + 1))) (Err (fault.Line number))) t
+    ∙ ap (λ b. cond b (Err (fault.Line (line_after number))) (Err (fault.Line number))) t

@@ -2,7 +2,10 @@ pub mod AcceptLemmas
 pub mod AgainLemmas
 pub mod CanonLemmas
 pub mod CauseLemmas
+pub mod ConverseLemmas
 pub mod CutLemmas
+pub mod FewLemmas
+pub mod FitLemmas
 pub mod FormLemmas
 pub mod FromLemmas
 pub mod MadeLemmas

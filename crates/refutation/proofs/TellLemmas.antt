@@ -13,7 +13,7 @@ use Rattle.refutation.specs.declared.node.Node.{Node}
 use Rattle.refutation.specs.declared.node.Node.TheVariants as node
 use Rattle.refutation.specs.Forms.{Form, SplitForm, HallForm, LimitForm, RankForm, WitnessForm, below_in, members, form_of, HasWords}
 
-in_below : (n : ℕ) (p : ℕ → Bool) (x : ℕ) → x < n → p x ≡ true → Member x (below_in n p)
+pub in_below : (n : ℕ) (p : ℕ → Bool) (x : ℕ) → x < n → p x ≡ true → Member x (below_in n p)
 in_below zero p x l h = absurd (omega arith)
 in_below (suc n) p x l h = elim (le_or x n) [
   | inl k ↦ member_left x (below_in n p) (cond (p n) (n ∷ []) []) (in_below n p x k h)

@@ -8,7 +8,7 @@ use Rattle.refutation.specs.Trees.{Tree, BadLeaf, RankLeaf, WitnessLeaf, Fork, n
 use Rattle.refutation.specs.Forms.{Form, form_of, takes_up}
 use Rattle.refutation.proofs.FormLemmas.{append_nil}
 
-lines_append : (ns ms : List Node) → map form_of (ns ++ ms) ≡ map form_of ns ++ map form_of ms
+pub lines_append : (ns ms : List Node) → map form_of (ns ++ ms) ≡ map form_of ns ++ map form_of ms
 lines_append [] ms = refl
 lines_append (n ∷ ns) ms = ap (λ fs. form_of n ∷ fs) (lines_append ns ms)
 

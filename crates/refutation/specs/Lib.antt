@@ -1,5 +1,6 @@
 pub mod Canonical
 pub mod Forms
+pub mod Lines
 pub mod Making
 pub mod Outcomes
 pub mod Reading

@@ -1,5 +1,5 @@
 -- What a proof's text is read as, line by line.
-use Rattle.std.specs.Prelude.{◌≡◌, ℕ, zero, suc, ◌+◌, ◌^◌, ◌==◌, ◌&&◌, List, [], ◌∷◌, ◌++◌, drop, Bool, true, false, Option, Some, None, option_and_then, Result, Ok, Err, if◌then◌else◌, nat_lt, nat_le, nat_eq, codes, decimal}
+use Rattle.std.specs.Prelude.{◌≡◌, ℕ, zero, suc, ◌+◌, ◌^◌, ◌==◌, ◌&&◌, List, [], ◌∷◌, ◌++◌, drop, Bool, true, false, Option, Some, None, option_and_then, Result, Ok, Err, if◌then◌else◌, min, nat_lt, nat_le, nat_eq, codes, decimal}
 use Rattle.std.specs.List.{starts_with, slice_split}
 use Rattle.std.specs.Option.{option_map, option_map_or}
 use Rattle.std.specs.Str.{bytes_eq}
@@ -97,6 +97,10 @@ abbrev pub is_text : List ℕ → Line → Bool
 is_text text l = bytes_eq l.text text
 
 -- ---- the lines of a proof, from a line of this number on
+-- the number of the next line. The greatest number that is told stands for all above it
+abbrev pub line_after : ℕ → ℕ
+line_after number = min (number + 1) 4294967295
+
 -- these nodes, and then what is read
 abbrev pub with_front : List Form → Result (List Form) ProofFault → Result (List Form) ProofFault
 with_front front (Err e) = Err e
@@ -106,9 +110,9 @@ with_front front (Ok forms) = Ok (front ++ forms)
 abbrev pub forms_from : ℕ → ℕ → List Line → Result (List Form) ProofFault
 forms_from number due [] = Err (fault.Line number)
 forms_from number zero (l ∷ []) = if l.ended && is_text (codes "end") l then Ok [] else Err (fault.Line number)
-forms_from number zero (l ∷ m ∷ ls) = if l.ended && is_text (codes "end") l then Err (fault.Line (number + 1)) else Err (fault.Line number)
+forms_from number zero (l ∷ m ∷ ls) = if l.ended && is_text (codes "end") l then Err (fault.Line (line_after number)) else Err (fault.Line number)
 forms_from number (suc due) (l ∷ ls) =
-    option_map_or (λ f. with_front (f ∷ []) (forms_from (number + 1) (due_after (suc due) f) ls)) (ended_as form_of_text l) (Err (fault.Line number))
+    option_map_or (λ f. with_front (f ∷ []) (forms_from (line_after number) (due_after (suc due) f) ls)) (ended_as form_of_text l) (Err (fault.Line number))
 
 -- a bound, and then what is read
 abbrev pub with_bound : Option ℕ → Result (List Form) ProofFault → Result (Option ℕ × List Form) ProofFault
@@ -118,13 +122,13 @@ with_bound bound (Ok forms) = Ok (bound, forms)
 -- the bound and the nodes of one tree
 abbrev pub bound_from : ℕ → List Line → Result (Option ℕ × List Form) ProofFault
 bound_from number [] = Err (fault.Line number)
-bound_from number (l ∷ ls) = option_map_or (λ bound. with_bound bound (forms_from (number + 1) 1 ls)) (ended_as bound_of_text l) (Err (fault.Line number))
+bound_from number (l ∷ ls) = option_map_or (λ bound. with_bound bound (forms_from (line_after number) 1 ls)) (ended_as bound_of_text l) (Err (fault.Line number))
 
 -- lines are passed over up to the first that is the first line of a proof
 abbrev pub proof_from : ℕ → List Line → Result (Option ℕ × List Form) ProofFault
 proof_from number [] = Err (fault.Line number)
 proof_from number (l ∷ ls) =
-    if is_text (codes "proof 1") l then (if l.ended then bound_from (number + 1) ls else Err (fault.Line number)) else proof_from (number + 1) ls
+    if is_text (codes "proof 1") l then (if l.ended then bound_from (line_after number) ls else Err (fault.Line number)) else proof_from (line_after number) ls
 
 -- the bound and the nodes that a text spells, or its first line that is not of a form due there
 unfoldable pub proof_of : List ℕ → Result (Option ℕ × List Form) ProofFault

@@ -1,8 +1,10 @@
 -- How a proof is spelled.
-use Rattle.std.specs.Prelude.{ℕ, List, [], ◌∷◌, ◌++◌, Option, Some, None, codes, decimal}
+use Rattle.std.specs.Prelude.{◌≡◌, ℕ, List, [], ◌∷◌, ◌++◌, Option, Some, None, true, codes, decimal}
+use Rattle.res_base.specs.Lists.{Each}
 use Rattle.search_api.specs.declared.verdict.Class.{Class}
 use Rattle.search_api.specs.declared.verdict.Class.TheVariants as class
-use Rattle.refutation.specs.Forms.{Form, SplitForm, HallForm, LimitForm, RankForm, WitnessForm}
+use Rattle.refutation.specs.Forms.{Form, SplitForm, HallForm, LimitForm, RankForm, WitnessForm, FitsForm, FitsBound, takes_up}
+use Rattle.refutation.specs.Reading.{IsPassedOver}
 
 abbrev pub class_text : Class → List ℕ
 class_text class.Pins = codes "H pins"
@@ -37,3 +39,18 @@ forms_text (f ∷ fs) = form_text f ++ 10 ∷ forms_text fs
 -- the first line, the bound, the nodes, and the last line
 unfoldable pub spelling : Option ℕ → List Form → List ℕ
 spelling bound forms = codes "proof 1" ++ 10 ∷ (bound_text bound ++ 10 ∷ (forms_text forms ++ (codes "end" ++ 10 ∷ [])))
+
+-- the text is whole lines, and each is passed over
+pub record ArePassedOver (text : List ℕ) : Type 0 where
+  pub lines : List (List ℕ)
+  pub passed : Each IsPassedOver lines
+  pub text_is : text ≡ lines_text lines
+
+-- the text is lines that are passed over, and then the spelling of this bound and of the nodes of one tree, each with a line
+pub record Spells (text : List ℕ) (bound : Option ℕ) (forms : List Form) : Type 0 where
+  pub before : List (List ℕ)
+  pub passed : Each IsPassedOver before
+  pub text_is : text ≡ lines_text before ++ spelling bound forms
+  pub bound_fits : FitsBound bound
+  pub forms_fit : Each FitsForm forms
+  pub one_tree : takes_up 1 forms ≡ true

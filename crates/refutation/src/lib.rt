@@ -8,7 +8,8 @@ mod read;
 mod write;
 
 pub use laws::{
-    accounted_outcome_serves, canonical_is_one, lines_tell_nodes, tree_is_whole, written_is_read,
+    accounted_outcome_serves, canonical_is_one, canonical_is_read, lines_tell_nodes,
+    read_is_written, tree_is_whole, written_is_read,
 };
 pub use make::canonical;
 pub use node::{CheckFault, Node, Proof, ProofFault};

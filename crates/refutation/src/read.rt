@@ -2,7 +2,7 @@ ghost use Rattle.std.specs.Prelude.{◌≡◌, ◌==◌, ℕ, ◌+◌, ◌<◌, 
 ghost use Rattle.std.specs.Option.{option_map, option_copied};
 ghost use Rattle.res_base.specs.VarSet.{in_set, NoneFrom};
 ghost use Rattle.refutation.specs.Forms.{form_of, due_after, Joins};
-ghost use Rattle.refutation.specs.Reading.{lines_of, HasNoEnd, fields, more_fields, number_of, number_below, number_from, split_form, limit_form, hall_form, form_of_text, bound_of_text, with_bound, forms_from, bound_from, proof_of, Refuses, Gives};
+ghost use Rattle.refutation.specs.Reading.{lines_of, line_after, HasNoEnd, fields, more_fields, number_of, number_below, number_from, split_form, limit_form, hall_form, form_of_text, bound_of_text, with_bound, forms_from, bound_from, proof_of, Refuses, Gives};
 
 use crate::node::{Node, Proof, ProofFault};
 use res_base::{Items, VarSet, parse_dec};
@@ -13,14 +13,14 @@ use std::alloc::Global;
 ///
 /// A text that spells no proof is refused at its first line that is not of a form due there. A
 /// line that has no end is refused too. Where a line is due and the text has come to its end, the
-/// refusal names the number after the last line's.
+/// refusal names the number after the last line's. A number above 4,294,967,295 is told as that one.
 pub fn read_proof(alloc: Global, text: &[u8]) -> Result<Proof, ProofFault>
-    requires { length text.now + 1 < 2 ^ 32 }
+    requires { length text.now < 2 ^ 32 }
     ensures { Gives (λ p. (p.bound, map form_of p.nodes)) result (proof_of text.now) }
 {
     let (number, rest) = after_first_line(text)?;
     let (bound, rest) = bound_in(number, rest)?;
-    let nodes = nodes_in(alloc, number + 1, rest)?;
+    let nodes = nodes_in(alloc, line_after(number), rest)?;
     Ok(Proof {
         bound,
         nodes: Items::of(nodes),
@@ -30,9 +30,8 @@ pub fn read_proof(alloc: Global, text: &[u8]) -> Result<Proof, ProofFault>
 /// What follows a proof's first line, and the number of the line there.
 #[tactic(auto, unfolding(crate::specs::Reading::proof_of))]
 fn after_first_line(text: &[u8]) -> Result<(u32, &[u8]), ProofFault>
-    requires { length text.now + 1 < 2 ^ 32 }
     ensures found { IfOk result (λ x. proof_of text.now ≡ bound_from x.0 (lines_of x.1.now)) }
-    ensures few { IfOk result (λ x. x.0 + length x.1.now ≤ length text.now + 1) }
+    ensures shorter { IfOk result (λ x. length x.1.now ≤ length text.now) }
     ensures refused { IfErr result (λ e. Refuses e (proof_of text.now)) }
 {
     let mut rest = text;
@@ -41,21 +40,21 @@ fn after_first_line(text: &[u8]) -> Result<(u32, &[u8]), ProofFault>
         let (line, ended, others) = first_line(rest);
         if line == b"proof 1".as_slice() {
             return if ended {
-                Ok((number + 1, others))
+                Ok((line_after(number), others))
             } else {
                 Err(ProofFault::Line { line: number })
             };
         }
         rest = others;
-        number += 1;
+        number = line_after(number);
     }
     Err(ProofFault::Line { line: number })
 }
 
 /// The bound of the first line, and what follows the line.
 fn bound_in(number: u32, text: &[u8]) -> Result<(Option<u64>, &[u8]), ProofFault>
-    ensures found { IfOk result (λ x. bound_from number (lines_of text.now) ≡ with_bound x.0 (forms_from (number + 1) 1 (lines_of x.1.now))) }
-    ensures few { IfOk result (λ x. 1 + length x.1.now ≤ length text.now) }
+    ensures found { IfOk result (λ x. bound_from number (lines_of text.now) ≡ with_bound x.0 (forms_from (line_after number) 1 (lines_of x.1.now))) }
+    ensures shorter { IfOk result (λ x. length x.1.now ≤ length text.now) }
     ensures refused { IfErr result (λ e. Refuses e (bound_from number (lines_of text.now))) }
 {
     let fault = ProofFault::Line { line: number };
@@ -70,7 +69,7 @@ fn bound_in(number: u32, text: &[u8]) -> Result<(Option<u64>, &[u8]), ProofFault
 
 /// The nodes of one tree, a line each, before the last line.
 fn nodes_in(alloc: Global, first: u32, text: &[u8]) -> Result<Vec<Node>, ProofFault>
-    requires { first + length text.now < 2 ^ 32 }
+    requires { length text.now < 2 ^ 32 }
     ensures { Gives (λ nodes. map form_of nodes.items) result (forms_from first 1 (lines_of text.now)) }
 {
     let mut nodes = Vec::new(alloc);
@@ -87,10 +86,17 @@ fn nodes_in(alloc: Global, first: u32, text: &[u8]) -> Result<Vec<Node>, ProofFa
         nodes.push(node)?;
         due = due_after(due, node);
         rest = others;
-        number += 1;
+        number = line_after(number);
     }
     last_line(number, rest)?;
     Ok(nodes)
+}
+
+/// The number of the next line. The greatest number that is told stands for all above it.
+fn line_after(number: u32) -> u32
+    ensures { result ≡ line_after number }
+{
+    number.saturating_add(1)
 }
 
 /// How many trees are due after a node.
@@ -106,7 +112,6 @@ fn due_after(due: u64, node: Node) -> u64
 
 /// Whether the last line of a proof stands here, and nothing after it.
 fn last_line(number: u32, text: &[u8]) -> Result<(), ProofFault>
-    requires { number + length text.now < 2 ^ 32 }
     ensures { Gives (λ _. []) result (forms_from number 0 (lines_of text.now)) }
 {
     let Some((line, rest)) = ended_line(text) else {
@@ -118,7 +123,9 @@ fn last_line(number: u32, text: &[u8]) -> Result<(), ProofFault>
     if rest.is_empty() {
         Ok(())
     } else {
-        Err(ProofFault::Line { line: number + 1 })
+        Err(ProofFault::Line {
+            line: line_after(number),
+        })
     }
 }
 

@@ -1,3 +1,2 @@
 pub mod Counting
-pub mod Due
-pub mod Faults
+pub use Rattle.tree_check.specs.Faults

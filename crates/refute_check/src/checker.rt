@@ -1,18 +1,13 @@
-ghost use Rattle.std.specs.Prelude.{◌≡◌, ◌≢◌, ◌<◌, ◌^◌, ◌∷◌, [], length, IfOk, IfErr, OnOk};
-ghost use Rattle.std.specs.List.{list_any};
+ghost use Rattle.std.specs.Prelude.{◌≡◌, ◌≢◌, ◌<◌, ◌^◌, length, IfOk, IfErr, OnOk};
 ghost use Rattle.choice_rank.specs.Least.{IsAnswer};
-ghost use Rattle.box_split.specs.Boxes.{whole};
 ghost use Rattle.problem.specs.Meets.{meets};
 ghost use Rattle.box_rules.specs.Judged.{whole_meaning};
 ghost use Rattle.refutation.specs.Trees.{IsAccepted};
-ghost use Rattle.refute_check.specs.Faults.{fault_at, fault_from, fault_of_witness, is_witness_leaf, IsRejected};
+ghost use Rattle.refute_check.specs.Faults.{IsRejected};
 
-use crate::rules::{is_witness_leaf, keeps_rule};
-use crate::stack::{all_due, push_parts};
-use crate::whole::is_whole;
+use crate::whole::{WholeRefuter, is_whole};
 use problem::Problem;
-use refutation::{CheckFault, Node, Proof};
-use res_base::OutOfMemory;
+use refutation::{CheckFault, Proof};
 use std::alloc::Global;
 
 /// The bound of a proof that is accepted for a whole problem: the rank of the least choice that
@@ -30,77 +25,5 @@ pub fn check(alloc: Global, p: &Problem, proof: &Proof) -> Result<Option<u64>, C
     ensures rejected { IfErr result (IsRejected (whole_meaning p.now) proof.now.bound proof.now.nodes) }
 {
     is_whole(p);
-    let nodes = proof.nodes.as_slice();
-    match fault_at(alloc, p, proof.bound, nodes) {
-        Ok(None) => Ok(proof.bound),
-        Ok(Some(node)) => Err(CheckFault::Rejected { node }),
-        Err(_) => Err(CheckFault::Memory),
-    }
-}
-
-/// The first node that is at fault, if one is.
-fn fault_at(
-    alloc: Global,
-    p: &Problem,
-    bound: Option<u64>,
-    nodes: &[Node],
-) -> Result<Option<u32>, OutOfMemory>
-    requires whole { p.now.first ≢ 0 }
-    requires few { length nodes.now < 2 ^ 32 }
-    ensures { IfOk result (λ found. found ≡ fault_at (whole_meaning p.now) bound nodes.now) }
-{
-    let broken = first_broken(alloc, p, bound, nodes)?;
-    match broken {
-        Some(node) => Ok(Some(node)),
-        None => Ok(fault_of_witness(bound, nodes)),
-    }
-}
-
-/// The number of nodes, where a bound has no witness.
-fn fault_of_witness(bound: Option<u64>, nodes: &[Node]) -> Option<u32>
-    requires { length nodes.now < 2 ^ 32 }
-    ensures { result ≡ fault_of_witness bound nodes.now }
-{
-    if bound.is_none() {
-        return None;
-    }
-    if has_witness(nodes) {
-        return None;
-    }
-    Some(nodes.len() as u32)
-}
-
-fn has_witness(nodes: &[Node]) -> bool
-    ensures { result ≡ list_any is_witness_leaf nodes.now }
-{
-    nodes.iter().any(|node| is_witness_leaf(*node))
-}
-
-/// The first node that breaks its rule or that no box is due for; the number of nodes where they end too early.
-fn first_broken(
-    alloc: Global,
-    p: &Problem,
-    bound: Option<u64>,
-    nodes: &[Node],
-) -> Result<Option<u32>, OutOfMemory>
-    requires whole { p.now.first ≢ 0 }
-    requires few { length nodes.now < 2 ^ 32 }
-    ensures { IfOk result (λ found. found ≡ fault_from (whole_meaning p.now) bound 0 nodes.now (whole p.now.shape ∷ [])) }
-{
-    let shape = &p.parts().shape;
-    let mut due = all_due(alloc, shape)?;
-    for number in 0..nodes.len() {
-        let Some(b) = due.pop() else {
-            return Ok(Some(number as u32));
-        };
-        let node = nodes[number];
-        if !keeps_rule(p, bound, node, &b) {
-            return Ok(Some(number as u32));
-        }
-        push_parts(&mut due, shape, node, &b)?;
-    }
-    if due.is_empty() {
-        return Ok(None);
-    }
-    Ok(Some(nodes.len() as u32))
+    tree_check::check(alloc, &WholeRefuter { problem: p }, proof)
 }

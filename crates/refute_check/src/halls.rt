@@ -1,5 +1,5 @@
 //! Whether variables are more than the resources that they have together.
-ghost use Rattle.std.specs.Prelude.{◌≡◌, ◌≢◌, ◌≤◌, ◌<◌, ◌+◌, ◌&&◌, ◌||◌, ℕ, List, [], length, drop, slice_index, slice_index_or};
+ghost use Rattle.std.specs.Prelude.{◌≡◌, ◌≤◌, ◌<◌, ◌+◌, ◌&&◌, ◌||◌, ℕ, List, [], length, drop, slice_index, slice_index_or};
 ghost use Rattle.std.specs.List.{list_all};
 ghost use Rattle.res_base.specs.Lists.{Each};
 ghost use Rattle.res_base.specs.VarSet.{in_set};
@@ -8,10 +8,9 @@ ghost use Rattle.box_split.specs.BoxIn.{box_in, runs_in};
 ghost use Rattle.res_model.specs.Placement.{is_exti, number_of};
 ghost use Rattle.box_rules.specs.Contest.{competes, contestants, resource_of, shows_hall, uses_in};
 ghost use Rattle.box_rules.specs.Inside.{AreInside};
-ghost use Rattle.box_rules.specs.Judged.{contest, HasResources};
+ghost use Rattle.box_rules.specs.Judged.{contest, HasResources, IsWhole};
 ghost use Rattle.refute_check.specs.Counting.{are_of_class, has_resource, is_of_class, is_used};
 
-use crate::whole::is_whole;
 use box_split::BoxBuf;
 use problem::Problem;
 use res_base::{Items, VarSet};
@@ -20,11 +19,10 @@ use search_api::Class;
 
 /// Whether a set of variables shows a box: all are signals of the class, and they are more than their resources.
 pub(crate) fn shows_hall(p: &Problem, class: Class, vars: &VarSet, b: &BoxBuf) -> bool
-    requires whole { p.now.first ≢ 0 }
+    requires whole { IsWhole p.now }
     requires is_box { IsBox p.now.shape (box_in p.now.shape b.now) }
     ensures { result ≡ shows_hall p.now.tables class (contest p.now class (box_in p.now.shape b.now)) vars.now }
 {
-    is_whole(p);
     let parts = p.parts();
     let t = parts.tables.parts();
     let uses = parts.uses.as_slice();

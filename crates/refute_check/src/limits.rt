@@ -1,22 +1,20 @@
 //! Whether the clock values of a box leave no room for a limit.
-ghost use Rattle.std.specs.Prelude.{◌≡◌, ◌≢◌, take};
+ghost use Rattle.std.specs.Prelude.{◌≡◌, take};
 ghost use Rattle.box_split.specs.Boxes.{IsBox};
 ghost use Rattle.box_split.specs.BoxIn.{box_in};
-ghost use Rattle.res_model.specs.Ranges.{shows_limit};
-ghost use Rattle.box_rules.specs.Judged.{clock_box};
+ghost use Rattle.clock_limits.specs.Ranges.{shows_limit};
+ghost use Rattle.box_rules.specs.Judged.{clock_box, IsWhole};
 
-use crate::whole::is_whole;
 use box_split::BoxBuf;
 use clock_limits::{ClockBox, is_shown};
 use problem::Problem;
 
 /// Whether the clock values of a box leave no room for the limit of this number.
 pub(crate) fn shows_limit(p: &Problem, limit: u8, b: &BoxBuf) -> bool
-    requires whole { p.now.first ≢ 0 }
+    requires whole { IsWhole p.now }
     requires is_box { IsBox p.now.shape (box_in p.now.shape b.now) }
     ensures { result ≡ shows_limit p.now.tables p.now.facts p.now.clock (clock_box (box_in p.now.shape b.now)) limit }
 {
-    is_whole(p);
     let parts = p.parts();
     let values = parts.clock.as_slice();
     is_shown(&parts.tables, &parts.facts, values, &clock_box(b), limit)

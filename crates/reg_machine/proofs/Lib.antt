@@ -1,3 +1,4 @@
+pub mod FlagLemmas
 pub mod LegalLemmas
 pub mod SoundLemmas
 pub mod TreeLemmas

@@ -1,5 +1,5 @@
 -- The awaits that are lawful: which register, mask, wanted word and name go together, and while what.
--- Every other one is forbidden by rule 18.
+-- Every other one is forbidden.
 use Rattle.std.specs.Prelude.{ℕ, ◌*◌, ◌%◌, Bool, false, ◌&&◌, ◌==◌}
 use Rattle.reg_map.specs.Fields.{bit_of}
 use Rattle.reg_map.specs.declared.register.Reg.{Reg}

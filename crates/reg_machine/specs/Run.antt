@@ -3,6 +3,7 @@ use Rattle.std.specs.Prelude.{◌≡◌, ℕ, zero, suc, ◌≤◌, List, [], �
 use Rattle.reg_machine.specs.declared.op.Timeout.{Timeout}
 use Rattle.reg_machine.specs.declared.op.Op.{Op}
 use Rattle.reg_machine.specs.declared.op.Answer.{Answer}
+use Rattle.reg_machine.specs.declared.op.Rule.{Rule}
 use Rattle.reg_machine.specs.declared.op.Stepped.{Stepped}
 use Rattle.reg_machine.specs.declared.op.Stepped.TheVariants as stepped
 use Rattle.reg_machine.specs.declared.state.State.{State}
@@ -13,7 +14,7 @@ pub data Config : Type 0 where
   Running : (left : List Op) (s : State) → Config
   Done : (s : State) → Config
   TimedOut : (name : Timeout) (s : State) → Config
-  Forbidden : (rule : ℕ) (s : State) → Config
+  Forbidden : (rule : Rule) (s : State) → Config
 
 abbrev pub after : Op → List Op → Stepped × State → Config
 after op ops (stepped.Went, s) = Running ops s

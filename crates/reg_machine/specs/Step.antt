@@ -8,6 +8,7 @@ use Rattle.reg_machine.specs.declared.op.Timeout.{Timeout}
 use Rattle.reg_machine.specs.declared.op.Op.{Op}
 use Rattle.reg_machine.specs.declared.op.Op.TheVariants as op
 use Rattle.reg_machine.specs.declared.op.Answer.{Answer}
+use Rattle.reg_machine.specs.declared.op.Rule.TheVariants as rule
 use Rattle.reg_machine.specs.declared.op.Stepped.{Stepped}
 use Rattle.reg_machine.specs.declared.op.Stepped.TheVariants as stepped
 use Rattle.reg_machine.specs.declared.state.State.{State}
@@ -58,14 +59,18 @@ noted reg.Apb1enr s = record s { apb_read = s.apb1enr }
 noted reg.PwrCr s = s
 noted (reg.Gpio port k) s = s
 
+-- an op is done: the next await begins at no polls
+abbrev pub went : State → Stepped × State
+went s = (stepped.Went, record s { polls = 0 })
+
 -- a write, or the least rule that forbids it
 abbrev pub store : State → Reg → ℕ → Stepped × State
-store s r value = option_map_or (λ rule. (stepped.Forbidden rule, s)) (bars s r value) (stepped.Went, stored r value s)
+store s r value = option_map_or (λ broken. (stepped.Forbidden broken, s)) (bars s r value) (went (stored r value s))
 
 -- an await that reads once
 abbrev pub poll : State → Reg → ℕ → ℕ → ℕ → Timeout → Stepped × State
 poll s r mask want polls name =
-    if bit_and (word_of s r) mask == want then (stepped.Went, record s { polls = 0 })
+    if bit_and (word_of s r) mask == want then went s
     else (if nat_lt (s.polls + 1) polls then (stepped.Waiting, record s { polls = s.polls + 1 }) else (stepped.TimedOut name, record s { polls = 0 }))
 
 abbrev pub is_acr : Reg → Bool
@@ -78,12 +83,12 @@ is_acr reg.Acr = true
 is_acr reg.PwrCr = false
 is_acr (reg.Gpio port k) = false
 
--- FLASH_ACR takes no modify (rule 15), and an await has a poll and is lawful (rule 18)
+-- FLASH_ACR takes no modify, and an await has a poll and is lawful
 abbrev pub act : State → Op → Stepped × State
 act s (op.Write r value) = store s r value
-act s (op.Modify r clear set) = if is_acr r then (stepped.Forbidden 15, s) else store s r (modified s r clear set)
-act s (op.Read r) = (stepped.Went, noted r s)
-act s (op.Await r mask want polls name) = if nat_lt 0 polls && is_lawful s r mask want name then poll s r mask want polls name else (stepped.Forbidden 18, s)
+act s (op.Modify r clear set) = if is_acr r then (stepped.Forbidden rule.AcrModifiedOrOtherBit, s) else store s r (modified s r clear set)
+act s (op.Read r) = went (noted r s)
+act s (op.Await r mask want polls name) = if nat_lt 0 polls && is_lawful s r mask want name then poll s r mask want polls name else (stepped.Forbidden rule.AwaitUnlawful, s)
 
 abbrev pub step_of : State → Op → Answer → Stepped × State
 step_of s op a = act (flags a s) op

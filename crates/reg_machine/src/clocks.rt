@@ -6,7 +6,7 @@ ghost use Rattle.reg_machine.specs.Words.{IsStored};
 ghost use Rattle.reg_machine.specs.Tree.{hpre_value, ppre_value, src_of, choice_of, nodes_where, tree_of};
 ghost use Rattle.reg_machine.specs.Legal.{is_choice_legal, are_within_some, is_vco_legal};
 
-use crate::rule::{PLLON, VOS, bit};
+use crate::rules::{PLLON, VOS, bit};
 use crate::state::State;
 use clock_tree::nodes;
 use power_flash::{is_within_scale, row_covers};
@@ -125,7 +125,7 @@ fn fields_of(s: &State, source: u32) -> ClockChoice
     }
 }
 
-fn src_of(code: u32) -> Src
+pub fn src_of(code: u32) -> Src
     ensures { result ≡ src_of code }
 {
     match code {

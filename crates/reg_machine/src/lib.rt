@@ -3,15 +3,17 @@
 #![tactic(auto)]
 
 mod clocks;
+mod laws;
 mod machine;
 mod op;
 mod pins;
-mod rule;
+mod rules;
 mod state;
 mod step;
 
+pub use laws::flags_come_once;
 pub use machine::Machine;
-pub use op::{Answer, Op, Stepped, Timeout};
+pub use op::{Answer, Op, Rule, Stepped, Timeout};
 pub use pins::{af_kind, is_debug};
 pub use state::{State, Target};
 

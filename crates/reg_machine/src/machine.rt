@@ -1,9 +1,10 @@
+//! The machine: its state with the table and the target.
 ghost use Rattle.std.specs.Prelude.{◌≡◌, ◌^◌, ◌<◌};
 ghost use Rattle.reg_machine.specs.Legal.{is_legal};
 ghost use Rattle.reg_machine.specs.Words.{IsStored};
 ghost use Rattle.reg_machine.specs.Reset.{reset_gpio, reset_of};
 
-use crate::clocks::{is_choice_legal, is_vco_legal, tree_of};
+use crate::clocks::{is_choice_legal, is_vco_legal, src_of, tree_of};
 use crate::op::{Answer, Op, Stepped};
 use crate::pins::{are_pins_legal, mode_at};
 use crate::state::{State, Target};
@@ -11,7 +12,7 @@ use crate::step;
 use power_flash::prefetch;
 use reg_map::Reg;
 use res_base::OutOfMemory;
-use res_model::{Mode, Nodes, Tables};
+use res_model::{Mode, Nodes, Src, Tables};
 use std::alloc::Global;
 use std::marker::Model;
 
@@ -40,10 +41,10 @@ impl Machine {
     ghost use Rattle.reg_map.specs.Registers.{IsRegister};
     ghost use Rattle.reg_machine.specs.Words.{IsOp, word_of};
     ghost use Rattle.reg_machine.specs.Reset.{fresh};
-    ghost use Rattle.reg_machine.specs.Step.{step_of};
+    ghost use Rattle.reg_machine.specs.Step.{flags, step_of};
     ghost use Rattle.reg_machine.specs.Legal.{IsLegal, is_legal};
     ghost use Rattle.reg_machine.specs.Pins.{mode_at};
-    ghost use Rattle.reg_machine.specs.Tree.{tree_of};
+    ghost use Rattle.reg_machine.specs.Tree.{src_of, tree_of};
 
     /// The machine after reset.
     pub fn reset(alloc: Global, t: &Tables, want: &Target) -> Result<Machine, OutOfMemory>
@@ -69,6 +70,15 @@ impl Machine {
         step::step(&mut self.state, op, a)
     }
 
+    /// The pending flags that the answer names come. A step with the same answer then goes as it would have gone alone.
+    pub fn come(&mut self, a: Answer)
+        ensures state { self.new.state ≡ flags a self.old.state }
+        ensures table { self.new.table ≡ self.old.table }
+        ensures want { self.new.want ≡ self.old.want }
+    {
+        self.state = step::with_flags(&self.state, a);
+    }
+
     /// A register's word as it reads.
     pub fn word(&self, r: Reg) -> u32
         requires { IsRegister r }
@@ -83,6 +93,20 @@ impl Machine {
         ensures means { IsTrue result ↔ IsLegal self.now.table self.now.want self.now.state }
     {
         is_legal(&self.tables, &self.want, &self.state)
+    }
+
+    /// The source of SYSCLK that is in effect, as SWS reads (RM0090, RCC_CFGR).
+    pub fn source(&self) -> Src
+        ensures { result ≡ src_of self.now.state.source }
+    {
+        src_of(self.state.source)
+    }
+
+    /// The wait states of the flash that are in effect, as LATENCY reads (RM0090, FLASH_ACR).
+    pub fn latency(&self) -> u8
+        ensures { result ≡ self.now.state.latency }
+    {
+        self.state.latency as u8
     }
 
     /// The clock tree for the source in effect. The nodes of the PLL are None where it is off.

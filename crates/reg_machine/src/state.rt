@@ -1,3 +1,4 @@
+//! The state of the registers, and what is wanted of it.
 use res_model::{Facts, Mode};
 
 /// What a project and its choice want: the facts of the clocks, and the mode of each pin, at port times 16 plus number.

@@ -1,12 +1,13 @@
+//! What an op does to the state.
 ghost use Rattle.std.specs.Prelude.{◌≡◌, ℕ, ◌+◌, ◌*◌, ◌^◌, ◌<◌, Some, None};
 ghost use Rattle.reg_map.specs.Registers.{IsRegister};
 ghost use Rattle.reg_machine.specs.Words.{word_of, number, slot, IsStored, IsOp};
 ghost use Rattle.reg_machine.specs.Rules.{bars};
 ghost use Rattle.reg_machine.specs.Awaits.{awaits_ready, awaits_switch, awaits_latency, is_lawful};
-ghost use Rattle.reg_machine.specs.Step.{flags, stored, noted, store, poll, is_acr, act, step_of};
+ghost use Rattle.reg_machine.specs.Step.{flags, stored, noted, went, store, poll, is_acr, act, step_of};
 
-use crate::op::{Answer, Op, Stepped, Timeout};
-use crate::rule::{HSEON, PLLON, barred, bit};
+use crate::op::{Answer, Op, Rule, Stepped, Timeout};
+use crate::rules::{HSEON, PLLON, barred, bit};
 use crate::state::State;
 use reg_map::{GpioReg, Reg};
 
@@ -22,16 +23,15 @@ pub fn step(s: &mut State, op: &Op, a: Answer) -> Stepped
         Op::Write { reg, value } => store_word(s, reg, value),
         Op::Modify { reg, clear, set } => {
             if is_acr(reg) {
-                Stepped::Forbidden { rule: 15 }
+                Stepped::Forbidden {
+                    rule: Rule::AcrModifiedOrOtherBit,
+                }
             } else {
                 let value = (word(s, reg) & !clear) | set;
                 store_word(s, reg, value)
             }
         }
-        Op::Read { reg } => {
-            note_read(s, reg);
-            Stepped::Went
-        }
+        Op::Read { reg } => read_word(s, reg),
         Op::Await {
             reg,
             mask,
@@ -40,15 +40,17 @@ pub fn step(s: &mut State, op: &Op, a: Answer) -> Stepped
             name,
         } => {
             if 0 < polls && lawful(s, reg, mask, want, name) {
-                read_once(s, reg, mask, want, polls, name)
+                poll(s, reg, mask, want, polls, name)
             } else {
-                Stepped::Forbidden { rule: 18 }
+                Stepped::Forbidden {
+                    rule: Rule::AwaitUnlawful,
+                }
             }
         }
     }
 }
 
-fn with_flags(s: &State, a: Answer) -> State
+pub fn with_flags(s: &State, a: Answer) -> State
     requires { IsStored s.now }
     ensures new { result ≡ flags a s.now }
     ensures kept { IsStored result }
@@ -68,15 +70,25 @@ fn with_flags(s: &State, a: Answer) -> State
     }
 }
 
-fn read_once(s: &mut State, r: Reg, mask: u32, want: u32, polls: u32, name: Timeout) -> Stepped
+/// The op is done, and the next await begins at no polls.
+fn went(s: &mut State) -> Stepped
+    requires { IsStored s.old }
+    ensures step { (result, s.new) ≡ went s.old }
+    ensures kept { IsStored s.new }
+{
+    s.polls = 0;
+    Stepped::Went
+}
+
+/// An await reads once.
+fn poll(s: &mut State, r: Reg, mask: u32, want: u32, polls: u32, name: Timeout) -> Stepped
     requires stored { IsStored s.old }
     requires port { IsRegister r }
     ensures step { (result, s.new) ≡ poll s.old r mask want polls name }
     ensures kept { IsStored s.new }
 {
     if word(s, r) & mask == want {
-        s.polls = 0;
-        Stepped::Went
+        went(s)
     } else if s.polls + 1 < polls {
         s.polls += 1;
         Stepped::Waiting
@@ -96,7 +108,7 @@ fn store_word(s: &mut State, r: Reg, value: u32) -> Stepped
         Some(rule) => Stepped::Forbidden { rule },
         None => {
             put(s, r, value);
-            Stepped::Went
+            went(s)
         }
     }
 }
@@ -136,6 +148,15 @@ fn put(s: &mut State, r: Reg, value: u32)
             s.gpio[i] = value;
         }
     }
+}
+
+fn read_word(s: &mut State, r: Reg) -> Stepped
+    requires { IsStored s.old }
+    ensures step { (result, s.new) ≡ went (noted r s.old) }
+    ensures kept { IsStored s.new }
+{
+    note_read(s, r);
+    went(s)
 }
 
 fn note_read(s: &mut State, r: Reg)

@@ -4,7 +4,7 @@ use Rattle.choice_rank.specs.Choices.{cost_of, rank_of}
 use Rattle.problem.specs.declared.parts.ProblemParts.{ProblemParts}
 use Rattle.problem.specs.ClockValues.{clock_at}
 use Rattle.res_model.specs.Clock.{hclk_of}
-use Rattle.res_model.specs.ClockText.{floor, node_line}
+use Rattle.clock_tree.specs.ClockText.{floor, node_line}
 
 -- HCLK of a choice, in whole hertz
 abbrev pub hclk_hertz : ProblemParts → List ℕ → ℕ

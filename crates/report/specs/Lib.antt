@@ -1,3 +1,4 @@
 pub mod Cases
+pub mod PinText
 pub mod Placed
 pub mod Reported

@@ -4,7 +4,7 @@ use Rattle.choice_rank.specs.Choices.{choices_of, cost_of, rank_of}
 use Rattle.problem.specs.declared.parts.ProblemParts.{ProblemParts}
 use Rattle.problem.specs.Meets.{places_of}
 use Rattle.res_model.specs.declared.table.PinUse.{PinUse}
-use Rattle.res_model.specs.PinText.{pins_text, rank_line}
+use Rattle.report.specs.PinText.{pins_text, rank_line}
 use Rattle.res_model.specs.Placement.{uses_at}
 
 -- the uses of a choice, one for each signal

@@ -3,7 +3,7 @@ use Rattle.std.specs.Prelude.{ℕ, List, ◌++◌}
 use Rattle.problem.specs.declared.parts.ProblemParts.{ProblemParts}
 use Rattle.problem.specs.ClockValues.{clock_at}
 use Rattle.res_model.specs.Clock.{hclk_of}
-use Rattle.res_model.specs.ClockText.{clock_text}
+use Rattle.clock_tree.specs.ClockText.{clock_text}
 use Rattle.res_model.specs.Power.{wait_of}
 use Rattle.res_model.specs.declared.clock.ClockChoice.{ClockChoice}
 use Rattle.reg_machine.specs.declared.op.Op.{Op}

@@ -1,7 +1,7 @@
 //! The lines of a made case.
 ghost use Rattle.std.specs.Prelude.{◌≡◌, ◌≢◌, ◌++◌, IfOk, OnOk, string_bytes};
 ghost use Rattle.choice_rank.specs.Choices.{IsChoice};
-ghost use Rattle.res_model.specs.ClockText.{node_line};
+ghost use Rattle.clock_tree.specs.ClockText.{node_line};
 ghost use Rattle.report.specs.Cases.{case_text, hclk_hertz};
 
 use crate::clocks::clock_in;
@@ -10,7 +10,7 @@ use problem::Problem;
 use res_base::OutOfMemory;
 use std::alloc::{AllocError, Global};
 
-#[tactic(auto, unfolding(res_model::specs::ClockText::node_line))]
+#[tactic(auto, unfolding(clock_tree::specs::ClockText::node_line))]
 fn number_line(alloc: Global, name: &str, n: u64) -> Result<String, AllocError>
     ensures { IfOk result (λ x. string_bytes x ≡ node_line name.now n) }
 {

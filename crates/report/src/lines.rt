@@ -1,7 +1,7 @@
 //! The text of a placement.
 ghost use Rattle.std.specs.Prelude.{◌≡◌, ◌≤◌, ◌++◌, List, [], ◌∷◌, length, slice_get, string_bytes, IfOk, OnOk};
 ghost use Rattle.std.specs.Option.{option_map_or};
-ghost use Rattle.res_model.specs.PinText.{mode_text, state_text, is_home, words_line, pin_line, pin_lines, pin_name, rank_line, count_line, pins_text};
+ghost use Rattle.report.specs.PinText.{mode_text, state_text, is_home, words_line, pin_line, pin_lines, pin_name, rank_line, count_line, pins_text};
 
 use res_model::{Mode, PinUse, Signal, TableParts};
 use std::alloc::{AllocError, Global};
@@ -41,7 +41,7 @@ fn pin_name(t: &TableParts, pin: u8) -> &str
     }
 }
 
-#[tactic(auto, unfolding(res_model::specs::PinText::words_line))]
+#[tactic(auto, unfolding(crate::specs::PinText::words_line))]
 fn words_line(
     alloc: Global,
     pin: &str,
@@ -94,7 +94,7 @@ fn put_pin_lines(
     Ok(())
 }
 
-#[tactic(auto, unfolding(res_model::specs::PinText::rank_line))]
+#[tactic(auto, unfolding(crate::specs::PinText::rank_line))]
 fn rank_line(alloc: Global, rank: u64, cost: u64, choices: u64) -> Result<String, AllocError>
     ensures { IfOk result (λ x. string_bytes x ≡ rank_line rank cost choices) }
 {
@@ -102,7 +102,7 @@ fn rank_line(alloc: Global, rank: u64, cost: u64, choices: u64) -> Result<String
     Ok(line)
 }
 
-#[tactic(auto, unfolding(res_model::specs::PinText::count_line))]
+#[tactic(auto, unfolding(crate::specs::PinText::count_line))]
 fn count_line(alloc: Global, count: usize) -> Result<String, AllocError>
     ensures { IfOk result (λ x. string_bytes x ≡ count_line count) }
 {

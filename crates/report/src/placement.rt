@@ -1,7 +1,7 @@
 //! The text of a placement, with its rank.
 ghost use Rattle.std.specs.Prelude.{◌≡◌, ◌++◌, ◌≤◌, [], ◌∷◌, drop, length, slice_get, IfOk, OnOk};
 ghost use Rattle.choice_rank.specs.Choices.{IsChoice, choices_of, cost_of, rank_of};
-ghost use Rattle.res_model.specs.PinText.{pins_text, rank_line};
+ghost use Rattle.report.specs.PinText.{pins_text, rank_line};
 ghost use Rattle.res_model.specs.Placement.{uses_at};
 ghost use Rattle.report.specs.Placed.{placement_text, uses_of};
 

@@ -1,12 +1,8 @@
--- What every project that was read keeps under its table.
-use Rattle.std.specs.Prelude.{◌≡◌, ℕ, ◌<◌, ◌≤◌, ◌^◌, ◌==◌, ◌&&◌, ◌||◌, ◌⊎◌, List, [], length, Bool, true, false, if◌then◌else◌, Option, Some, None, is_some, IsTrue, IfSome, IsSomeAnd, Ok, codes}
+-- Where a signal of a project may be, under a table.
+use Rattle.std.specs.Prelude.{◌≡◌, ℕ, ◌<◌, ◌≤◌, ◌==◌, ◌||◌, ◌⊎◌, List, [], length, Bool, true, false, if◌then◌else◌, Option, Some, None, is_some, IsTrue, IfSome, IsSomeAnd, codes}
 use Rattle.std.specs.List.{list_any}
 use Rattle.std.specs.Str.{bytes_eq}
-use Rattle.res_base.specs.Lists.{Each}
 use Rattle.res_model.specs.Signals.{signal_named, rows_of}
-use Rattle.res_model.specs.Project.{domain_tests, all_within, fixes_clock}
-use Rattle.res_model.specs.declared.command.Opts.{Opts}
-use Rattle.res_model.specs.declared.project.Project.{Project}
 use Rattle.res_model.specs.declared.project.Signal.{Signal}
 use Rattle.res_model.specs.declared.table.PinUse.{PinUse}
 use Rattle.res_model.specs.declared.table.TableParts.{TableParts}
@@ -37,10 +33,3 @@ pub record IsPlaced (t : TableParts) (s : Signal) : Type 0 where
   pub at_home : s.need ≡ false → IsSomeAnd s.home (λ h. h < length t.pins)
   -- a locked signal with rows has one at its home
   pub stays : s.locked ≡ true → IfSome s.home (HasRowAt (rows_placed t s.name))
-
-pub record IsRead (t : TableParts) (opts : Opts) (clocks : Bool) (p : Project) : Type 0 where
-  pub few : length p.signals ≤ 160
-  pub placed : Each (IsPlaced t) p.signals
-  pub hertz : t.hse_hz < 2 ^ 32 → p.hse_hz < 2 ^ 32
-  -- fixed clock variables in play have their homes in their domains
-  pub clock_within : (clocks && fixes_clock opts.free) ≡ true → all_within (domain_tests t.clock) p.clock ≡ Ok tt

@@ -1,7 +1,8 @@
 -- The rules that every table keeps.
 use Rattle.std.specs.Prelude.{◌≡◌, ◌≢◌, ℕ, ◌<◌, ◌≤◌, List, [], ◌∷◌, length, map, Option, Some, None, IfSome, codes, ◌⊎◌, slice_index}
 use Rattle.res_base.specs.Lists.{Each, Member, Pairwise}
-use Rattle.res_model.specs.Table.{spot, ahb_dividers, apb_dividers, pll_dividers, known_scales, hsi}
+use Rattle.res_model.specs.ClockValues.{ahb_dividers, apb_dividers, pll_dividers, known_scales, hsi}
+use Rattle.res_model.specs.PinNames.{spot}
 use Rattle.res_model.specs.declared.table.Pin.{Pin}
 use Rattle.res_model.specs.declared.table.Role.{Role}
 use Rattle.res_model.specs.declared.table.Role.TheVariants as role

@@ -1,5 +1,5 @@
 ghost use Rattle.std.specs.Prelude.{◌≡◌, ◌≢◌, ◌<◌, Some, length, slice_get, option_map, IfSome, IfNone, IfOk};
-ghost use Rattle.res_model.specs.Table.{place};
+ghost use Rattle.res_model.specs.PinNames.{place};
 
 use crate::copy::copy_parts;
 use res_base::{Items, OutOfMemory, Text};
@@ -163,7 +163,7 @@ impl Model for Tables {
 
 impl Tables {
     ghost use Rattle.res_base.specs.Lists.{Each};
-    ghost use Rattle.res_model.specs.Table.{place};
+    ghost use Rattle.res_model.specs.PinNames.{place};
     ghost use Rattle.res_model.specs.Valid.{IsValid};
 
     /// The table that says this.
@@ -225,7 +225,7 @@ impl Tables {
 }
 
 /// The place of the pin of this name.
-#[tactic(auto, unfolding(crate::specs::Table::place))]
+#[tactic(auto, unfolding(crate::specs::PinNames::place))]
 fn place_of(pins: &[Pin], name: &[u8]) -> Option<usize>
     ensures place { result ≡ place pins.now name.now }
     ensures within { IfSome result (λ i. i < length pins.now) }

@@ -6,11 +6,11 @@ use Rattle.std.proofs.lemmas.Bool.Decides.{nat_tests}
 use Rattle.std.proofs.lemmas.Grind.{common_steps}
 use Rattle.res_base.specs.Lists.{Each, Member}
 use Rattle.res_model.specs.Clock.{IsInRange, IsOscillator}
-use Rattle.res_model.specs.Project.{all_within, domain_tests, is_among, is_within}
-use Rattle.res_model.specs.Table.{ahb_dividers, apb_dividers, pll_dividers, known_scales}
+use Rattle.ioc_project.specs.Project.{all_within, domain_tests, is_among, is_within}
+use Rattle.res_model.specs.ClockValues.{ahb_dividers, apb_dividers, pll_dividers, known_scales}
 use Rattle.res_model.specs.Valid.{AreDomains, AreAmong, IsRange}
-use Rattle.res_model.specs.declared.fault.ProjectFault.{ProjectFault}
-use Rattle.res_model.specs.declared.fault.ProjectFault.TheVariants.{OutOfTable}
+use Rattle.ioc_project.specs.declared.fault.ProjectFault.{ProjectFault}
+use Rattle.ioc_project.specs.declared.fault.ProjectFault.TheVariants.{OutOfTable}
 use Rattle.res_model.specs.declared.project.Home.{Home}
 use Rattle.res_model.specs.declared.table.Domains.{Domains}
 use Rattle.resolver.specs.HomeTree.{AreHomes, home_at, home_choice, source_of}

@@ -1,3 +1,4 @@
 pub mod CaseLemmas
 pub mod HomeLemmas
+pub mod InputLemmas
 pub mod StatusLemmas

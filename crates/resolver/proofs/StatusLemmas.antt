@@ -1,46 +1,54 @@
--- The status of a problem is none of those that only reading, writing or want of memory has.
-use Rattle.std.proofs.Common.{◌≡◌, ◌≢◌, ℕ, List, ◌+◌, Bool, Option, subst, sym, arith}
+-- The status of a problem is none of those that only reading, writing or a lack of memory has.
+use Rattle.std.proofs.Common.{◌≡◌, ◌≢◌, ◌∙◌, ℕ, List, Bool, Option, Result, Ok, Err, ap, subst, sym}
+use Rattle.answers.specs.Said.{answered}
+use Rattle.answers.specs.declared.answer.Answer.{Answer}
+use Rattle.answers.specs.declared.answer.Status.{Status}
+use Rattle.answers.specs.declared.answer.Status.TheVariants.{Done, NoChoice, TooWide, TableRefused, ProjectRefused, ProofRefused, ReadFailed, TooLong, WriteFailed, OutOfMemory}
+use Rattle.call_io.specs.Gathered.{IsOfBytes}
 use Rattle.problem.specs.declared.parts.ProblemParts.{ProblemParts}
 use Rattle.refutation.specs.declared.node.Node.{Node}
 use Rattle.solver.specs.Owed.{OfCase, OfNodes, OfPins, OfProblem, OfProof, OfWhole}
 use Rattle.solver.specs.Owed as owed
-use Rattle.resolver.specs.Owed.{IsOfContents}
 
-zero : IsOfContents 0
-zero = record { no_read_fault = λ e. omega arith; no_length = λ e. omega arith; no_write_fault = λ e. omega arith; no_memory = λ e. omega arith }
+done : IsOfBytes Done
+done = record { own = record { no_write_fault = λ e. absurd cc; no_memory = λ e. absurd cc }; no_read_fault = λ e. absurd cc; no_length = λ e. absurd cc }
 
-one : IsOfContents 1
-one = record { no_read_fault = λ e. omega arith; no_length = λ e. omega arith; no_write_fault = λ e. omega arith; no_memory = λ e. omega arith }
+no_choice : IsOfBytes NoChoice
+no_choice = record { own = record { no_write_fault = λ e. absurd cc; no_memory = λ e. absurd cc }; no_read_fault = λ e. absurd cc; no_length = λ e. absurd cc }
 
-seven : IsOfContents 7
-seven = record { no_read_fault = λ e. omega arith; no_length = λ e. omega arith; no_write_fault = λ e. omega arith; no_memory = λ e. omega arith }
+too_wide : IsOfBytes TooWide
+too_wide = record { own = record { no_write_fault = λ e. absurd cc; no_memory = λ e. absurd cc }; no_read_fault = λ e. absurd cc; no_length = λ e. absurd cc }
 
-at : (s k : ℕ) → s ≡ k → IsOfContents k → IsOfContents s
-at s k e h = subst IsOfContents (sym e) h
+proof_refused : IsOfBytes ProofRefused
+proof_refused = record { own = record { no_write_fault = λ e. absurd cc; no_memory = λ e. absurd cc }; no_read_fault = λ e. absurd cc; no_length = λ e. absurd cc }
 
-pub of_problem : (p : ProblemParts) (task : ℕ → List ℕ → Type 0) (s : ℕ) (x : List ℕ) → (task s x → IsOfContents s) → OfProblem p task s x → IsOfContents s
-of_problem p task s x own (owed.wide v not_narrow first says) = at s 7 says.0 seven
-of_problem p task s x own (owed.narrow is_narrow done) = own done
+-- an answer has the status that it was given
+pub at : (a : Answer) (status : Status) (text : List ℕ) → a ≡ answered status text → IsOfBytes status → IsOfBytes a.status
+at a status text e own = subst IsOfBytes (sym (ap (λ (x : Answer). x.status) e)) own
 
-pub of_pins : (p : ProblemParts) (s : ℕ) (x : List ℕ) → OfPins p s x → IsOfContents s
-of_pins p s x (owed.placed c low e f) = at s 0 e zero
-of_pins p s x (owed.unplaced no_legal says) = at s 1 says.0 one
+pub of_done : (a : Answer) (text : List ℕ) → a ≡ answered Done text → IsOfBytes a.status
+of_done a text e = at a Done text e done
 
-ten : IsOfContents 10
-ten = record { no_read_fault = λ e. omega arith; no_length = λ e. omega arith; no_write_fault = λ e. omega arith; no_memory = λ e. omega arith }
+pub of_problem : (p : ProblemParts) (task : Answer → Type 0) (a : Answer) → (task a → IsOfBytes a.status) → OfProblem p task a → IsOfBytes a.status
+of_problem p task a own (owed.wide v not_narrow first says) = at a TooWide _ says too_wide
+of_problem p task a own (owed.narrow is_narrow asked) = own asked
 
-pub of_whole : (proof : Bool) (p : ProblemParts) (s : ℕ) (x : List ℕ) → OfWhole proof p s x → IsOfContents s
-of_whole proof p s x (owed.solved c more low sound asked e f) = at s 0 e zero
-of_whole proof p s x (owed.refuted no_legal shown e) = at s 1 e one
+pub of_pins : (p : ProblemParts) (a : Answer) → OfPins p a → IsOfBytes a.status
+of_pins p a (owed.placed c low e) = at a Done _ e done
+of_pins p a (owed.unplaced no_legal says) = at a NoChoice _ says no_choice
 
-pub of_case : (number : ℕ) (p : ProblemParts) (s : ℕ) (x : List ℕ) → OfCase number p s x → IsOfContents s
-of_case number p s x (owed.made c low e f) = at s 0 e zero
-of_case number p s x (owed.unmade no_legal says) = at s 1 says.0 one
+pub of_whole : (proof : Bool) (p : ProblemParts) (a : Answer) → OfWhole proof p a → IsOfBytes a.status
+of_whole proof p a (owed.solved c more low sound asked e) = at a Done _ e done
+of_whole proof p a (owed.refuted text no_legal shown e) = at a NoChoice _ e no_choice
 
-of_nodes : (p : ProblemParts) (bound : Option ℕ) (nodes : List Node) (s : ℕ) (x : List ℕ) → OfNodes p bound nodes s x → IsOfContents s
-of_nodes p bound nodes s x (owed.rejected node e says) = at s 10 says.0 ten
-of_nodes p bound nodes s x (owed.accepted e says) = at s 0 says.0 zero
+pub of_case : (number : ℕ) (p : ProblemParts) (a : Answer) → OfCase number p a → IsOfBytes a.status
+of_case number p a (owed.made c low e) = at a Done _ e done
+of_case number p a (owed.unmade no_legal says) = at a NoChoice _ says no_choice
 
-pub of_proof : (text : List ℕ) (p : ProblemParts) (s : ℕ) (x : List ℕ) → OfProof text p s x → IsOfContents s
-of_proof text p s x (owed.unread line e says) = at s 10 says.0 ten
-of_proof text p s x (owed.nodes bound read e due) = of_nodes p bound read s x due
+of_nodes : (p : ProblemParts) (bound : Option ℕ) (nodes : List Node) (a : Answer) → OfNodes p bound nodes a → IsOfBytes a.status
+of_nodes p bound nodes a (owed.rejected node e says) = at a ProofRefused _ says proof_refused
+of_nodes p bound nodes a (owed.accepted e says) = at a Done _ says done
+
+pub of_proof : (text : List ℕ) (p : ProblemParts) (a : Answer) → OfProof text p a → IsOfBytes a.status
+of_proof text p a (owed.unread line e says) = at a ProofRefused _ says proof_refused
+of_proof text p a (owed.nodes bound read e due) = of_nodes p bound read a due

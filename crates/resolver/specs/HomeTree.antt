@@ -1,15 +1,15 @@
 -- The clock tree of a project's homes.
 use Rattle.std.specs.Prelude.{◌≡◌, ◌<◌, ◌==◌, ◌++◌, ℕ, List, [], ◌∷◌, Option, Some, None, codes, decimal, slice_index_or, if◌then◌else◌}
 use Rattle.res_model.specs.Clock.{IsInRange, facts_of, hclk_of}
-use Rattle.res_model.specs.ClockText.{clock_text}
+use Rattle.clock_tree.specs.ClockText.{clock_text}
 use Rattle.res_model.specs.Limits.{broken_limit}
 use Rattle.res_model.specs.Power.{wait_of}
 use Rattle.res_model.specs.declared.clock.ClockChoice.{ClockChoice}
 use Rattle.res_model.specs.declared.clock.Facts.{Facts}
 use Rattle.res_model.specs.declared.clock.Src.{Src}
 use Rattle.res_model.specs.declared.clock.Src.TheVariants.{Hsi, Hse, Pll}
-use Rattle.res_model.specs.declared.command.Free.TheVariants.{Pins}
-use Rattle.res_model.specs.declared.command.Opts.{Opts}
+use Rattle.res_model.specs.declared.opts.Free.TheVariants.{Pins}
+use Rattle.res_model.specs.declared.opts.Opts.{Opts}
 use Rattle.res_model.specs.declared.project.Home.{Home}
 use Rattle.res_model.specs.declared.project.Project.{Project}
 use Rattle.res_model.specs.declared.table.TableParts.{TableParts}

@@ -1,4 +1,4 @@
 pub mod Due
 pub mod HomeTree
-pub mod Owed
+pub mod Opening
 pub mod Refusals

@@ -1,40 +1,8 @@
--- What is said of words, a table or a project that is refused.
+-- What is said of words that have no reading.
 use Rattle.std.specs.Prelude.{ℕ, List, [], ◌++◌, codes, decimal}
-use Rattle.res_model.specs.declared.fault.UsageFault.{UsageFault}
-use Rattle.res_model.specs.declared.fault.UsageFault.TheVariants as words
-use Rattle.res_model.specs.declared.fault.TableFault.{TableFault}
-use Rattle.res_model.specs.declared.fault.TableFault.TheVariants as tables
-use Rattle.res_model.specs.declared.fault.IocFault.{IocFault}
-use Rattle.res_model.specs.declared.fault.IocFault.TheVariants as text
-use Rattle.res_model.specs.declared.fault.ProjectFault.{ProjectFault}
-use Rattle.res_model.specs.declared.fault.ProjectFault.TheVariants as project
+use Rattle.cmd_words.specs.declared.fault.UsageFault.{UsageFault}
+use Rattle.cmd_words.specs.declared.fault.UsageFault.TheVariants as words
 
 abbrev pub words_refusal : UsageFault → List ℕ
 words_refusal (words.Word number) = codes "usage: word " ++ decimal number
 words_refusal words.Memory = []
-
-abbrev pub table_refusal : TableFault → List ℕ
-table_refusal tables.NotJson = codes "tables: not json"
-table_refusal (tables.Missing path) = codes "tables: missing " ++ path
-table_refusal (tables.BadField path) = codes "tables: field " ++ path
-table_refusal (tables.Repeated path) = codes "tables: repeated " ++ path
-table_refusal (tables.ResetIllegal limit) = codes "tables: reset " ++ decimal limit
-table_refusal tables.Memory = []
-
-abbrev pub text_refusal : IocFault → List ℕ
-text_refusal (text.LongLine line) = codes "project: long line " ++ decimal line
-text_refusal (text.NoEquals line) = codes "project: no equals line " ++ decimal line
-text_refusal (text.BadEscape line) = codes "project: escape line " ++ decimal line
-text_refusal (text.TwiceKey line) = codes "project: twice line " ++ decimal line
-text_refusal text.Memory = []
-
-abbrev pub project_refusal : ProjectFault → List ℕ
-project_refusal (project.WrongPart line) = codes "project: part line " ++ decimal line
-project_refusal (project.UnknownPin line) = codes "project: pin line " ++ decimal line
-project_refusal (project.UnknownSignal line) = codes "project: signal line " ++ decimal line
-project_refusal (project.UnknownNeed need) = codes "project: need " ++ decimal need
-project_refusal (project.NotCandidate line) = codes "project: candidate line " ++ decimal line
-project_refusal (project.BadValue line) = codes "project: value line " ++ decimal line
-project_refusal (project.OutOfTable line) = codes "project: table line " ++ decimal line
-project_refusal (project.TooMany count) = codes "project: too many " ++ decimal count
-project_refusal project.Memory = []

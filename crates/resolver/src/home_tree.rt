@@ -1,9 +1,9 @@
 //! The clock tree of a project's homes.
 ghost use Rattle.std.specs.Prelude.{◌≡◌, ◌<◌, ◌^◌, ◌++◌, [], ◌∷◌, true, Ok, IfOk, string_bytes};
 ghost use Rattle.res_model.specs.Clock.{AreFacts, IsInRange, facts_of, hclk_of};
-ghost use Rattle.res_model.specs.declared.command.Free.TheVariants.{Pins};
-ghost use Rattle.res_model.specs.Placed.{IsRead};
-ghost use Rattle.res_model.specs.Project.{all_within, domain_tests};
+ghost use Rattle.res_model.specs.declared.opts.Free.TheVariants.{Pins};
+ghost use Rattle.ioc_project.specs.Read.{IsRead};
+ghost use Rattle.ioc_project.specs.Project.{all_within, domain_tests};
 ghost use Rattle.res_model.specs.Power.{wait_of};
 ghost use Rattle.resolver.specs.HomeTree.{AreHomes, choice_text, home_at, home_choice, home_text, limits_line, source_of};
 

@@ -1,141 +1,78 @@
 //! The top call.
-ghost use Rattle.std.specs.Prelude.{◌≡◌, ◌≢◌, ◌≤◌, ◌++◌, List, [], ◌∷◌, ℕ, Option, Some, None, codes, decimal, map, string_bytes, is_none, true, false, IfOk, IfSome, IfNone};
-ghost use Rattle.res_io.specs.Causes.{NoneFell, Rose};
+ghost use Rattle.std.specs.Prelude.{◌≡◌, ◌≢◌, ◌≤◌, Option, Some, None, Result, Ok, Err, length, map, string_bytes, true, false, IfOk, IfSome, IfNone};
+ghost use Rattle.answers.specs.declared.answer.Status.TheVariants as status;
+ghost use Rattle.call_io.specs.Inputs.{Reads, reads, wrote};
+ghost use Rattle.call_io.specs.Ran.{Answers, Ended, Ran, Served};
+ghost use Rattle.cmd_words.specs.Asked.{inputs_of, workers_asked};
+ghost use Rattle.cmd_words.specs.UsageFaults.{Refuses};
+ghost use Rattle.cmd_words.specs.Words.{command_of};
+ghost use Rattle.cmd_words.specs.declared.command.Command.{Command};
+ghost use Rattle.cmd_words.specs.declared.fault.UsageFault.{UsageFault};
 ghost use Rattle.res_io.specs.Files.{bytes_in};
-ghost use Rattle.res_model.specs.Words.{command_of};
-ghost use Rattle.resolver.specs.Due.{OfCommand};
-ghost use Rattle.solver.specs.Said.{Says};
-ghost use Rattle.resolver.specs.Owed.{TellsFor, TellsDue, Settled, IsReadFault, IsTooLong, IsToldIfServed, WroteReadFault, WroteTooLong, WroteFront, IsOwn, inputs_of, ReadFaultAt, TooLongAt, IsToldAt, AnswersCase, IsCaseAnswered, may_wait, waits};
+ghost use Rattle.resolver.specs.Due.{Due, OfCommand, names_of, waits};
 
-use crate::reading::{of_case, of_files};
+use crate::commands::of_bytes;
 use crate::refusals::refused_words;
-use crate::tasks::{PlacePins, ResolveAll, ShowTree};
-use crate::three::of_check;
-use cmd_words::read_words;
-use res_base::OutOfMemory;
-use res_io::{Gate, Inputs, Sink, SureInputs, SureSink, write_all};
-use res_model::Command;
-use solver::{Answer, says};
+use answers::{Answer, Status, says};
+use call_io::{Gathered, gather, write_answer};
+use cmd_words::{Command, UsageFault, read_words};
+use res_base::{OutOfMemory, Text};
+use res_io::{Gate, Inputs, Sink, SureInputs, SureSink};
 use std::alloc::Global;
 use std::sync::Wait;
 use std::thread::Threads;
 
-/// What is due for a command.
-fn of_command<I: Inputs>(
+/// Reads the inputs of these names, which are those of a command, and makes its answer.
+fn answer_over<I: Inputs>(
     alloc: Global,
     command: Command,
     inputs: &mut I,
+    names: &[Text],
 ) -> Result<Answer, OutOfMemory>
-    ensures files { I.files inputs.new ≡ I.files inputs.old }
-    ensures later { NoneFell (I.faults inputs.old) (I.faults inputs.new) }
-    ensures status { IfOk result (λ a. IsOwn a.status) }
-    ensures due { IfOk result (λ a. a.status ≢ 3 → TellsFor command (I.files inputs.old) a.status a.text.items) }
-    ensures failed { IfOk result (λ a. a.status ≡ 3 → ReadFaultAt (inputs_of command) (I.faults inputs.old) (I.faults inputs.new) a.text.items) }
-    ensures too_long { IfOk result (λ a. a.status ≡ 4 → TooLongAt (inputs_of command) (I.current inputs.new) (I.taken inputs.new) a.text.items) }
-    ensures told { IfOk result (λ a. a.status ≢ 11 → IsToldAt (inputs_of command) (I.current inputs.new) (I.taken inputs.new) a.status) }
-    ensures case { IfOk result (λ a. AnswersCase command a.status) }
+    requires names { names.now ≡ inputs_of command }
+    requires alone { workers_asked command ≤ 1 }
+    ensures { IfOk result (Served (inputs_of command) (OfCommand command)
+        (reads (I.files inputs.old) (I.faults inputs.old) (I.current inputs.old) (I.taken inputs.old))
+        (reads (I.files inputs.new) (I.faults inputs.new) (I.current inputs.new) (I.taken inputs.new))) }
 {
-    match command {
-        Command::Pins {
-            tables,
-            project,
-            opts,
-        } => {
-            let task = PlacePins::new(opts);
-            of_files(alloc, inputs, tables.as_str(), project.as_str(), &task)
-        }
-        Command::Tree {
-            tables,
-            project,
-            opts,
-        } => {
-            let task = ShowTree::new(opts);
-            of_files(alloc, inputs, tables.as_str(), project.as_str(), &task)
-        }
-        Command::Resolve {
-            tables,
-            project,
-            opts,
-            workers,
-            proof,
-        } => {
-            if workers > 1 {
-                return says(alloc, 11, "not built: workers");
-            }
-            let task = ResolveAll::new(opts, proof);
-            of_files(alloc, inputs, tables.as_str(), project.as_str(), &task)
-        }
-        Command::Check {
-            tables,
-            project,
-            proof,
-            opts,
-        } => of_check(alloc, inputs, &tables, &project, &proof, opts),
-        Command::Case { number, workers } => {
-            if workers > 1 {
-                return says(alloc, 11, "not built: workers");
-            }
-            of_case(alloc, number)
-        }
+    match gather(alloc, inputs, names)? {
+        Gathered::Files(files) => of_bytes(alloc, command, files.as_slice()),
+        Gathered::Refused(answer) => Ok(answer),
     }
 }
 
-/// Whether a command may start threads.
-fn may_wait(command: &Command) -> bool
-    ensures { result ≡ may_wait command.now }
+/// Reads what a command reads, and makes its answer.
+fn answer<I: Inputs>(alloc: Global, command: Command, inputs: &mut I) -> Result<Answer, OutOfMemory>
+    ensures { IfOk result (Served (inputs_of command) (OfCommand command)
+        (reads (I.files inputs.old) (I.faults inputs.old) (I.current inputs.old) (I.taken inputs.old))
+        (reads (I.files inputs.new) (I.faults inputs.new) (I.current inputs.new) (I.taken inputs.new))) }
 {
-    match command {
-        Command::Resolve { .. } | Command::Case { .. } => true,
-        _ => false,
+    if command.workers() > 1 {
+        return says(alloc, Status::NotBuilt, "not built: workers");
     }
+    let names = command.inputs(alloc)?;
+    answer_over(alloc, command, inputs, names.as_slice())
 }
 
-/// What is due for words.
-fn of_words<I: Inputs>(
-    alloc: Global,
-    words: &[String],
-    inputs: &mut I,
-) -> Result<Answer, OutOfMemory>
-    ensures files { I.files inputs.new ≡ I.files inputs.old }
-    ensures later { NoneFell (I.faults inputs.old) (I.faults inputs.new) }
-    ensures status { IfOk result (λ a. IsOwn a.status) }
-    ensures due { IfOk result (λ a. a.status ≢ 3 → TellsDue (map string_bytes words.now) (I.files inputs.old) a.status a.text.items) }
-    ensures failed { IfOk result (λ a. a.status ≡ 3 → IsReadFault (map string_bytes words.now) (I.faults inputs.old) (I.faults inputs.new) a.text.items) }
-    ensures too_long { IfOk result (λ a. a.status ≡ 4 → IsTooLong (map string_bytes words.now) (I.current inputs.new) (I.taken inputs.new) a.text.items) }
-    ensures told { IfOk result (λ a. IsToldIfServed (map string_bytes words.now) (I.current inputs.new) (I.taken inputs.new) a.status) }
-    ensures case { IfOk result (λ a. IsCaseAnswered (map string_bytes words.now) a.status) }
+/// Does what a command asks for.
+fn serve<I: Inputs, K: Sink>(alloc: Global, command: Command, inputs: &mut I, out: &mut K) -> Status
+    ensures { Ended (inputs_of command) (OfCommand command)
+        (reads (I.files inputs.old) (I.faults inputs.old) (I.current inputs.old) (I.taken inputs.old))
+        (reads (I.files inputs.new) (I.faults inputs.new) (I.current inputs.new) (I.taken inputs.new))
+        (wrote (K.written out.old) (K.faults out.old)) (wrote (K.written out.new) (K.faults out.new)) result }
 {
-    match read_words(alloc, words) {
-        Ok(command) => of_command(alloc, command, inputs),
-        Err(fault) => refused_words(alloc, fault),
-    }
+    let answer = answer(alloc, command, inputs);
+    write_answer(out, &answer)
 }
 
-/// What is due for words, but for those of a command that may start threads.
-fn settle<I: Inputs>(
-    alloc: Global,
-    words: &[String],
-    inputs: &mut I,
-) -> Result<Option<Answer>, OutOfMemory>
-    ensures waits { IfOk result (λ o. is_none o ≡ waits (command_of (map string_bytes words.now))) }
-    ensures untouched { IfOk result (λ o. IfNone o (inputs.new ≡ inputs.old)) }
-    ensures later { NoneFell (I.faults inputs.old) (I.faults inputs.new) }
-    ensures status { IfOk result (λ o. IfSome o (λ a. IsOwn a.status)) }
-    ensures due { IfOk result (λ o. IfSome o (λ a. a.status ≢ 3 → TellsDue (map string_bytes words.now) (I.files inputs.old) a.status a.text.items)) }
-    ensures failed { IfOk result (λ o. IfSome o (λ a. a.status ≡ 3 → IsReadFault (map string_bytes words.now) (I.faults inputs.old) (I.faults inputs.new) a.text.items)) }
-    ensures too_long { IfOk result (λ o. IfSome o (λ a. a.status ≡ 4 → IsTooLong (map string_bytes words.now) (I.current inputs.new) (I.taken inputs.new) a.text.items)) }
-    ensures told { IfOk result (λ o. IfSome o (λ a. IsToldIfServed (map string_bytes words.now) (I.current inputs.new) (I.taken inputs.new) a.status)) }
+/// Says that words have no reading.
+fn refuse<K: Sink>(alloc: Global, fault: UsageFault, out: &mut K) -> Status
+    ensures said { (asked : Result Command UsageFault) → Refuses fault asked → (r : Reads) → Ended (names_of asked) (Due asked) r r
+        (wrote (K.written out.old) (K.faults out.old)) (wrote (K.written out.new) (K.faults out.new)) result }
+    ensures waits { (asked : Result Command UsageFault) → Refuses fault asked → result ≢ status.OutOfMemory → waits asked ≡ false }
 {
-    match read_words(alloc, words) {
-        Ok(command) => {
-            if may_wait(&command) {
-                Ok(None)
-            } else {
-                Ok(Some(of_command(alloc, command, inputs)?))
-            }
-        }
-        Err(fault) => Ok(Some(refused_words(alloc, fault)?)),
-    }
+    let answer = refused_words(alloc, fault);
+    write_answer(out, &answer)
 }
 
 /// Does what the words ask for, and answers the status. The whole text is made before its first byte is written.
@@ -148,45 +85,36 @@ pub fn run_plain<I: Inputs, K: Sink>(
     out: &mut K,
 ) -> Option<u8>
     ensures none { result ≡ None → waits (command_of (map string_bytes words.now)) ≡ true }
-    ensures some { IfSome result (λ status. status ≢ 9 → waits (command_of (map string_bytes words.now)) ≡ false) }
     ensures inputs_untouched { result ≡ None → inputs.new ≡ inputs.old }
     ensures out_untouched { result ≡ None → out.new ≡ out.old }
-    ensures due { IfSome result (λ status. status ≢ 3 → status ≢ 8 → status ≢ 9 →
-        Settled (map string_bytes words.now) (I.files inputs.old) (K.written out.old) (K.written out.new) status) }
-    ensures failed { result ≡ Some 3 →
-        WroteReadFault (map string_bytes words.now) (I.faults inputs.old) (I.faults inputs.new) (K.written out.old) (K.written out.new) }
-    ensures too_long { result ≡ Some 4 →
-        WroteTooLong (map string_bytes words.now) (I.current inputs.new) (I.taken inputs.new) (K.written out.old) (K.written out.new) }
-    ensures told { IfSome result (λ status. status ≢ 8 → status ≢ 9 →
-        IsToldIfServed (map string_bytes words.now) (I.current inputs.new) (I.taken inputs.new) status) }
-    ensures write { result ≡ Some 8 → Rose (K.faults out.old) (K.faults out.new) }
-    ensures front { result ≡ Some 8 → WroteFront (map string_bytes words.now) (I.files inputs.old)
-        (I.faults inputs.old) (I.faults inputs.new) (K.written out.old) (K.written out.new) }
-    ensures memory { result ≡ Some 9 → K.written out.new ≡ K.written out.old }
+    ensures some { IfSome result (λ status. status ≢ 9 → waits (command_of (map string_bytes words.now)) ≡ false) }
+    ensures ran { IfSome result (Ran (names_of (command_of (map string_bytes words.now))) (Due (command_of (map string_bytes words.now)))
+        (reads (I.files inputs.old) (I.faults inputs.old) (I.current inputs.old) (I.taken inputs.old))
+        (reads (I.files inputs.new) (I.faults inputs.new) (I.current inputs.new) (I.taken inputs.new))
+        (wrote (K.written out.old) (K.faults out.old)) (wrote (K.written out.new) (K.faults out.new))) }
 {
-    match settle(alloc, words, inputs) {
-        Ok(Some(Answer { status, text })) => match write_all(out, text.as_slice()) {
-            Ok(()) => Some(status),
-            Err(_) => Some(8),
-        },
-        Ok(None) => None,
-        Err(_) => Some(9),
+    match read_words(alloc, words) {
+        Ok(command) => {
+            if command.may_wait() {
+                None
+            } else {
+                Some(serve(alloc, command, inputs, out).number())
+            }
+        }
+        Err(fault) => Some(refuse(alloc, fault, out).number()),
     }
 }
 
-/// The same over inputs and a sink that never fail: no answer tells of a failed read or write.
+/// The same over inputs and a sink that never fail: the answer is the one that is due, or 9.
 pub fn run_surely(
     alloc: Global,
     words: &[String],
     inputs: &mut SureInputs,
     out: &mut SureSink,
 ) -> Option<u8>
-    ensures no_read_fault { result ≢ Some 3 }
-    ensures no_write_fault { result ≢ Some 8 }
     ensures none { result ≡ None → waits (command_of (map string_bytes words.now)) ≡ true }
     ensures some { IfSome result (λ status. status ≢ 9 → waits (command_of (map string_bytes words.now)) ≡ false) }
-    ensures due { IfSome result (λ status. status ≢ 3 → status ≢ 8 → status ≢ 9 →
-        Settled (map string_bytes words.now) (Some (bytes_in inputs.old.files)) None None status) }
+    ensures answers { IfSome result (Answers (Some (bytes_in inputs.old.files)) (names_of (command_of (map string_bytes words.now))) (Due (command_of (map string_bytes words.now)))) }
 {
     run_plain(alloc, words, inputs, out)
 }
@@ -200,52 +128,13 @@ pub fn run<R: Threads + Wait + Sync, I: Inputs, K: Sink, G: Gate + Sync>(
     out: &mut K,
     _gate: &G,
 ) -> u8
-    ensures due { result ≢ 3 → result ≢ 8 → result ≢ 9 →
-        Settled (map string_bytes words.now) (I.files inputs.old) (K.written out.old) (K.written out.new) result }
-    ensures failed { result ≡ 3 →
-        WroteReadFault (map string_bytes words.now) (I.faults inputs.old) (I.faults inputs.new) (K.written out.old) (K.written out.new) }
-    ensures too_long { result ≡ 4 →
-        WroteTooLong (map string_bytes words.now) (I.current inputs.new) (I.taken inputs.new) (K.written out.old) (K.written out.new) }
-    ensures told { result ≢ 8 → result ≢ 9 →
-        IsToldIfServed (map string_bytes words.now) (I.current inputs.new) (I.taken inputs.new) result }
-    ensures case { result ≢ 8 → result ≢ 9 → IsCaseAnswered (map string_bytes words.now) result }
-    ensures write { result ≡ 8 → Rose (K.faults out.old) (K.faults out.new) }
-    ensures front { result ≡ 8 → WroteFront (map string_bytes words.now) (I.files inputs.old)
-        (I.faults inputs.old) (I.faults inputs.new) (K.written out.old) (K.written out.new) }
-    ensures memory { result ≡ 9 → K.written out.new ≡ K.written out.old }
+    ensures ran { Ran (names_of (command_of (map string_bytes words.now))) (Due (command_of (map string_bytes words.now)))
+        (reads (I.files inputs.old) (I.faults inputs.old) (I.current inputs.old) (I.taken inputs.old))
+        (reads (I.files inputs.new) (I.faults inputs.new) (I.current inputs.new) (I.taken inputs.new))
+        (wrote (K.written out.old) (K.faults out.old)) (wrote (K.written out.new) (K.faults out.new)) result }
 {
-    match run_plain(alloc, words, inputs, out) {
-        Some(status) => status,
-        None => run_waiting(alloc, words, inputs, out),
-    }
-}
-
-/// The commands that may start threads.
-fn run_waiting<I: Inputs, K: Sink>(
-    alloc: Global,
-    words: &[String],
-    inputs: &mut I,
-    out: &mut K,
-) -> u8
-    ensures due { result ≢ 3 → result ≢ 8 → result ≢ 9 →
-        Settled (map string_bytes words.now) (I.files inputs.old) (K.written out.old) (K.written out.new) result }
-    ensures failed { result ≡ 3 →
-        WroteReadFault (map string_bytes words.now) (I.faults inputs.old) (I.faults inputs.new) (K.written out.old) (K.written out.new) }
-    ensures too_long { result ≡ 4 →
-        WroteTooLong (map string_bytes words.now) (I.current inputs.new) (I.taken inputs.new) (K.written out.old) (K.written out.new) }
-    ensures told { result ≢ 8 → result ≢ 9 →
-        IsToldIfServed (map string_bytes words.now) (I.current inputs.new) (I.taken inputs.new) result }
-    ensures case { result ≢ 8 → result ≢ 9 → IsCaseAnswered (map string_bytes words.now) result }
-    ensures write { result ≡ 8 → Rose (K.faults out.old) (K.faults out.new) }
-    ensures front { result ≡ 8 → WroteFront (map string_bytes words.now) (I.files inputs.old)
-        (I.faults inputs.old) (I.faults inputs.new) (K.written out.old) (K.written out.new) }
-    ensures memory { result ≡ 9 → K.written out.new ≡ K.written out.old }
-{
-    match of_words(alloc, words, inputs) {
-        Ok(Answer { status, text }) => match write_all(out, text.as_slice()) {
-            Ok(()) => status,
-            Err(_) => 8,
-        },
-        Err(_) => 9,
+    match read_words(alloc, words) {
+        Ok(command) => serve(alloc, command, inputs, out).number(),
+        Err(fault) => refuse(alloc, fault, out).number(),
     }
 }

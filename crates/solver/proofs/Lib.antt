@@ -1,3 +1,2 @@
-pub mod FewLemmas
 pub mod LeastLemmas
 pub mod OpLemmas

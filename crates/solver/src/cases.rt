@@ -8,13 +8,13 @@ ghost use Rattle.problem.specs.declared.parts.Part.TheVariants as part;
 ghost use Rattle.res_model.specs.Placed.{IsPlaced};
 ghost use Rattle.solver.specs.Owed.{OfCase, OfProblem};
 
-use crate::answer::{Answer, says};
 use crate::least::{least_of, too_wide};
+use answers::{Answer, Status, says};
 use box_judge::PinClockJudge;
 use choice_rank::ShapeFault;
 use problem::{Part, Problem, build};
 use report::case_text;
-use res_base::OutOfMemory;
+use res_base::{Items, OutOfMemory};
 use res_model::{Opts, Project, Tables};
 use serial_search::search;
 use std::alloc::Global;
@@ -23,29 +23,32 @@ use std::alloc::Global;
 fn found(alloc: Global, number: u64, p: &Problem, rank: u64) -> Result<Answer, OutOfMemory>
     requires whole { p.now.first ≢ 0 }
     requires answer { IsAnswer p.now.shape (meets p.now) (Some rank) }
-    ensures { IfOk result (λ a. OfCase number p.now a.status a.text.items) }
+    ensures { IfOk result (λ a. OfCase number p.now a) }
 {
     let at = least_of(alloc, &p.parts().shape, rank)?;
     let text = case_text(alloc, number, p, at.as_slice())?;
-    Ok(Answer { status: 0, text })
+    Ok(Answer {
+        status: Status::Done,
+        text: Items::of(text),
+    })
 }
 
 /// What is due for the rank of the least choice, or for none.
 fn told(alloc: Global, number: u64, p: &Problem, best: Option<u64>) -> Result<Answer, OutOfMemory>
     requires whole { p.now.first ≢ 0 }
     requires answer { IsAnswer p.now.shape (meets p.now) best }
-    ensures { IfOk result (λ a. OfCase number p.now a.status a.text.items) }
+    ensures { IfOk result (λ a. OfCase number p.now a) }
 {
     match best {
         Some(rank) => found(alloc, number, p, rank),
-        None => says(alloc, 1, "no choice"),
+        None => says(alloc, Status::NoChoice, "no choice"),
     }
 }
 
 /// What is due where the search has accounted for each choice.
 fn searched(alloc: Global, number: u64, p: Problem) -> Result<Answer, OutOfMemory>
     requires { p.first ≢ 0 }
-    ensures { IfOk result (λ a. OfCase number p a.status a.text.items) }
+    ensures { IfOk result (λ a. OfCase number p a) }
 {
     let judge = PinClockJudge::new(alloc, p)?;
     let outcome = search(alloc, &judge)?;
@@ -64,7 +67,7 @@ pub fn resolve_case(
     requires placed { Each (IsPlaced t) p.signals }
     requires hertz { p.hse_hz < 2 ^ 32 }
     requires homes { AreHomesDue t p opts.now part.Whole }
-    ensures { IfOk result (λ a. OfProblem (problem_of t p opts.now part.Whole) (OfCase number (problem_of t p opts.now part.Whole)) a.status a.text.items) }
+    ensures { IfOk result (λ a. OfProblem (problem_of t p opts.now part.Whole) (OfCase number (problem_of t p opts.now part.Whole)) a) }
 {
     match build(alloc, t, p, opts, Part::Whole) {
         Ok(problem) => searched(alloc, number, problem),

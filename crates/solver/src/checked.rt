@@ -1,14 +1,15 @@
 //! Whether a refutation is accepted.
-ghost use Rattle.std.specs.Prelude.{◌≡◌, ◌≢◌, ◌≤◌, ◌<◌, ◌+◌, ◌^◌, length, IfOk};
+ghost use Rattle.std.specs.Prelude.{◌≡◌, ◌≢◌, ◌≤◌, ◌<◌, ◌+◌, ◌^◌, length, codes, decimal, ◌++◌, IfOk};
 ghost use Rattle.res_base.specs.Lists.{Each};
 ghost use Rattle.problem.specs.Problem.{AreHomesDue, problem_of};
 ghost use Rattle.problem.specs.declared.parts.Part.TheVariants as part;
 ghost use Rattle.res_model.specs.Placed.{IsPlaced};
 ghost use Rattle.solver.specs.Owed.{OfNodes, OfProblem, OfProof, accepted_text};
-ghost use Rattle.solver.specs.Said.{Says};
+ghost use Rattle.answers.specs.Said.{Says};
+ghost use Rattle.answers.specs.declared.answer.Status.TheVariants as status;
 
-use crate::answer::{Answer, counts, says};
 use crate::least::too_wide;
+use answers::{Answer, Status, counts, says};
 use choice_rank::ShapeFault;
 use problem::{Part, Problem, build};
 use refutation::{CheckFault, Proof, ProofFault, read_proof};
@@ -18,23 +19,30 @@ use std::alloc::Global;
 
 /// What is said of a refutation that is accepted.
 fn accepted(alloc: Global, bound: Option<u64>) -> Result<Answer, OutOfMemory>
-    ensures { IfOk result (λ a. Says a.status a.text.items 0 (accepted_text bound)) }
+    ensures { IfOk result (λ a. Says a status.Done (accepted_text bound)) }
 {
     match bound {
-        None => says(alloc, 0, "accepted: no choice"),
-        Some(rank) => counts(alloc, 0, "accepted: least rank ", rank),
+        None => says(alloc, Status::Done, "accepted: no choice"),
+        Some(rank) => counts(alloc, Status::Done, "accepted: least rank ", rank),
     }
+}
+
+/// What is said of a node that breaks its rule.
+fn rejected(alloc: Global, node: u32) -> Result<Answer, OutOfMemory>
+    ensures { IfOk result (λ a. Says a status.ProofRefused (codes "proof: node " ++ decimal node)) }
+{
+    counts(alloc, Status::ProofRefused, "proof: node ", u64::from(node))
 }
 
 /// What is due for the nodes of a refutation.
 fn judged(alloc: Global, p: &Problem, proof: &Proof) -> Result<Answer, OutOfMemory>
     requires whole { p.now.first ≢ 0 }
     requires few { length proof.now.nodes < 2 ^ 32 }
-    ensures { IfOk result (λ a. OfNodes p.now proof.now.bound proof.now.nodes a.status a.text.items) }
+    ensures { IfOk result (λ a. OfNodes p.now proof.now.bound proof.now.nodes a) }
 {
     match refute_check::check(alloc, p, proof) {
         Ok(bound) => accepted(alloc, bound),
-        Err(CheckFault::Rejected { node }) => counts(alloc, 10, "proof: node ", u64::from(node)),
+        Err(CheckFault::Rejected { node }) => rejected(alloc, node),
         Err(CheckFault::Memory) => Err(OutOfMemory),
     }
 }
@@ -43,11 +51,16 @@ fn judged(alloc: Global, p: &Problem, proof: &Proof) -> Result<Answer, OutOfMemo
 fn checked(alloc: Global, p: &Problem, text: &[u8]) -> Result<Answer, OutOfMemory>
     requires whole { p.now.first ≢ 0 }
     requires few { length text.now ≤ 67108864 }
-    ensures { IfOk result (λ a. OfProof text.now p.now a.status a.text.items) }
+    ensures { IfOk result (λ a. OfProof text.now p.now a) }
 {
     match read_proof(alloc, text) {
         Ok(proof) => judged(alloc, p, &proof),
-        Err(ProofFault::Line { line }) => counts(alloc, 10, "proof: line ", u64::from(line)),
+        Err(ProofFault::Line { line }) => counts(
+            alloc,
+            Status::ProofRefused,
+            "proof: line ",
+            u64::from(line),
+        ),
         Err(ProofFault::Memory) => Err(OutOfMemory),
     }
 }
@@ -65,7 +78,7 @@ pub fn check(
     requires hertz { p.hse_hz < 2 ^ 32 }
     requires homes { AreHomesDue t p opts.now part.Whole }
     requires bytes { length text.now ≤ 67108864 }
-    ensures { IfOk result (λ a. OfProblem (problem_of t p opts.now part.Whole) (OfProof text.now (problem_of t p opts.now part.Whole)) a.status a.text.items) }
+    ensures { IfOk result (λ a. OfProblem (problem_of t p opts.now part.Whole) (OfProof text.now (problem_of t p opts.now part.Whole)) a) }
 {
     match build(alloc, t, p, opts, Part::Whole) {
         Ok(problem) => checked(alloc, &problem, text),

@@ -2,9 +2,10 @@
 ghost use Rattle.std.specs.Prelude.{◌≡◌, ◌%◌, ◌++◌, ℕ, List, Bool, Some, codes, decimal, IfOk};
 ghost use Rattle.choice_rank.specs.Choices.{IsChoice, choices_of, index_of, rank_of};
 ghost use Rattle.choice_rank.specs.Least.{IsAnswer, IsLeast};
-ghost use Rattle.solver.specs.Said.{Says};
+ghost use Rattle.answers.specs.Said.{Says};
+ghost use Rattle.answers.specs.declared.answer.Status.TheVariants as status;
 
-use crate::answer::{Answer, counts};
+use answers::{Answer, Status, counts};
 use choice_rank::Shape;
 use res_base::OutOfMemory;
 use std::alloc::Global;
@@ -31,7 +32,12 @@ pub(crate) fn least_of(alloc: Global, shape: &Shape, rank: u64) -> Result<Vec<u1
 
 /// What is said of a problem whose ranks would not fit.
 pub(crate) fn too_wide(alloc: Global, variable: u16) -> Result<Answer, OutOfMemory>
-    ensures { IfOk result (λ a. Says a.status a.text.items 7 (codes "too wide: variable " ++ decimal variable)) }
+    ensures { IfOk result (λ a. Says a status.TooWide (codes "too wide: variable " ++ decimal variable)) }
 {
-    counts(alloc, 7, "too wide: variable ", u64::from(variable))
+    counts(
+        alloc,
+        Status::TooWide,
+        "too wide: variable ",
+        u64::from(variable),
+    )
 }

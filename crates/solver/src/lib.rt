@@ -1,7 +1,6 @@
 //! What is due for a problem: the text of its least choice, or why there is none.
 #![tactic(auto)]
 
-mod answer;
 mod cases;
 mod checked;
 mod least;
@@ -9,7 +8,6 @@ mod pins;
 mod proof_text;
 mod whole;
 
-pub use answer::{Answer, counts, names, says};
 pub use cases::resolve_case;
 pub use checked::check;
 pub use pins::place;

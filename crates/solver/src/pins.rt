@@ -8,13 +8,13 @@ ghost use Rattle.problem.specs.declared.parts.Part.TheVariants as part;
 ghost use Rattle.res_model.specs.Placed.{IsPlaced};
 ghost use Rattle.solver.specs.Owed.{OfPins, OfProblem};
 
-use crate::answer::{Answer, says};
 use crate::least::{least_of, too_wide};
+use answers::{Answer, Status, says};
 use box_judge::PinJudge;
 use choice_rank::ShapeFault;
 use problem::{Part, Problem, build};
 use report::placement_text;
-use res_base::OutOfMemory;
+use res_base::{Items, OutOfMemory};
 use res_model::{Opts, Project, Tables};
 use serial_search::search;
 use std::alloc::Global;
@@ -22,28 +22,31 @@ use std::alloc::Global;
 /// What is due where a rank is the least: its placement.
 fn found(alloc: Global, p: &Problem, rank: u64) -> Result<Answer, OutOfMemory>
     requires { IsAnswer p.now.shape (meets p.now) (Some rank) }
-    ensures { IfOk result (λ a. OfPins p.now a.status a.text.items) }
+    ensures { IfOk result (λ a. OfPins p.now a) }
 {
     let at = least_of(alloc, &p.parts().shape, rank)?;
     let text = placement_text(alloc, p, at.as_slice())?;
-    Ok(Answer { status: 0, text })
+    Ok(Answer {
+        status: Status::Done,
+        text: Items::of(text),
+    })
 }
 
 /// What is due for the rank of the least placement, or for none.
 fn told(alloc: Global, p: &Problem, best: Option<u64>) -> Result<Answer, OutOfMemory>
     requires { IsAnswer p.now.shape (meets p.now) best }
-    ensures { IfOk result (λ a. OfPins p.now a.status a.text.items) }
+    ensures { IfOk result (λ a. OfPins p.now a) }
 {
     match best {
         Some(rank) => found(alloc, p, rank),
-        None => says(alloc, 1, "no choice"),
+        None => says(alloc, Status::NoChoice, "no choice"),
     }
 }
 
 /// What is due where the search has accounted for each choice.
 fn searched(alloc: Global, p: Problem) -> Result<Answer, OutOfMemory>
     requires { p.first ≡ 0 }
-    ensures { IfOk result (λ a. OfPins p a.status a.text.items) }
+    ensures { IfOk result (λ a. OfPins p a) }
 {
     let judge = PinJudge::new(alloc, p)?;
     let outcome = search(alloc, &judge)?;
@@ -55,7 +58,7 @@ pub fn place(alloc: Global, t: Tables, p: Project, opts: &Opts) -> Result<Answer
     requires few { length p.signals ≤ 160 }
     requires placed { Each (IsPlaced t) p.signals }
     requires hertz { p.hse_hz < 2 ^ 32 }
-    ensures { IfOk result (λ a. OfProblem (problem_of t p opts.now part.PinsOnly) (OfPins (problem_of t p opts.now part.PinsOnly)) a.status a.text.items) }
+    ensures { IfOk result (λ a. OfProblem (problem_of t p opts.now part.PinsOnly) (OfPins (problem_of t p opts.now part.PinsOnly)) a) }
 {
     match build(alloc, t, p, opts, Part::PinsOnly) {
         Ok(problem) => searched(alloc, problem),

@@ -15,16 +15,16 @@ ghost use Rattle.res_model.specs.Placed.{IsPlaced};
 ghost use Rattle.search_api.specs.Accounts.{Accounted};
 ghost use Rattle.solver.specs.Owed.{AreSound, IsMore, OfProblem, OfWhole};
 
-use crate::answer::Answer;
 use crate::least::{least_of, too_wide};
 use crate::proof_text::refutation_text;
+use answers::{Answer, Status};
 use box_judge::PinClockJudge;
 use choice_rank::ShapeFault;
 use choice_setup::writes;
 use problem::{Part, Problem, build};
 use reg_machine::Op;
 use report::report_text;
-use res_base::OutOfMemory;
+use res_base::{Items, OutOfMemory};
 use res_model::{Opts, Project, Tables};
 use search_api::Outcome;
 use serial_search::search;
@@ -57,10 +57,13 @@ fn refuted(
     requires accounted { Accounted (whole_meaning judge.now.problem) outcome.now.best outcome.now.kept outcome.now.closed }
     requires none { NoneLegal judge.now.problem.shape (meets judge.now.problem) }
     requires best { outcome.now.best ≡ None }
-    ensures { IfOk result (λ a. OfWhole proof judge.now.problem a.status a.text.items) }
+    ensures { IfOk result (λ a. OfWhole proof judge.now.problem a) }
 {
     let text = refutation_text(alloc, judge, outcome)?;
-    Ok(Answer { status: 1, text })
+    Ok(Answer {
+        status: Status::NoChoice,
+        text: Items::of(text),
+    })
 }
 
 /// That the accesses of a choice are to registers that there are.
@@ -97,12 +100,15 @@ fn reported(
     requires whole { p.now.first ≢ 0 }
     requires answer { IsAnswer p.now.shape (meets p.now) (Some rank) }
     requires more { IsMore proof (whole_meaning p.now) (Some rank) more.now }
-    ensures { IfOk result (λ a. OfWhole proof p.now a.status a.text.items) }
+    ensures { IfOk result (λ a. OfWhole proof p.now a) }
 {
     let at = least_of(alloc, &p.parts().shape, rank)?;
     let mut text = report_of(alloc, p, at.as_slice())?;
     text.extend_from_slice(more)?;
-    Ok(Answer { status: 0, text })
+    Ok(Answer {
+        status: Status::Done,
+        text: Items::of(text),
+    })
 }
 
 /// What is due where the search has accounted for each choice.
@@ -115,7 +121,7 @@ fn told(
     requires whole { judge.now.problem.first ≢ 0 }
     requires accounted { Accounted (whole_meaning judge.now.problem) outcome.now.best outcome.now.kept outcome.now.closed }
     requires answer { IsAnswer judge.now.problem.shape (meets judge.now.problem) outcome.now.best }
-    ensures { IfOk result (λ a. OfWhole proof judge.now.problem a.status a.text.items) }
+    ensures { IfOk result (λ a. OfWhole proof judge.now.problem a) }
 {
     match outcome.best {
         Some(rank) => {
@@ -128,7 +134,7 @@ fn told(
 
 fn searched(alloc: Global, p: Problem, proof: bool) -> Result<Answer, OutOfMemory>
     requires { p.first ≢ 0 }
-    ensures { IfOk result (λ a. OfWhole proof p a.status a.text.items) }
+    ensures { IfOk result (λ a. OfWhole proof p a) }
 {
     let judge = PinClockJudge::new(alloc, p)?;
     let outcome = search(alloc, &judge)?;
@@ -147,7 +153,7 @@ pub fn resolve(
     requires placed { Each (IsPlaced t) p.signals }
     requires hertz { p.hse_hz < 2 ^ 32 }
     requires homes { AreHomesDue t p opts.now part.Whole }
-    ensures { IfOk result (λ a. OfProblem (problem_of t p opts.now part.Whole) (OfWhole proof (problem_of t p opts.now part.Whole)) a.status a.text.items) }
+    ensures { IfOk result (λ a. OfProblem (problem_of t p opts.now part.Whole) (OfWhole proof (problem_of t p opts.now part.Whole)) a) }
 {
     match build(alloc, t, p, opts, Part::Whole) {
         Ok(problem) => searched(alloc, problem, proof),

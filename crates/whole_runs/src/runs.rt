@@ -6,11 +6,11 @@ ghost use Rattle.init_gen.specs.Good.{IsSettable};
 
 use crate::settings::table;
 use init_gen::{Setting, generate, target};
-use mcu_tables::read_tables;
+use mcu_tables::{TableFault, read_tables};
 use reg_machine::{Answer, Machine, Op, Stepped};
 use reg_map::Reg;
 use res_base::{OutOfMemory, Ratio};
-use res_model::{Mode, Nodes, TableFault, Tables};
+use res_model::{Mode, Nodes, Src, Tables};
 use std::alloc::Global;
 use std::test::Fail;
 
@@ -22,12 +22,15 @@ pub(crate) struct Ran {
     pub legal: bool,
 }
 
-/// What is seen of the machine behind a run: RCC_CFGR, the nodes in hertz and the modes of some pins. Tests hold this and no
+/// What is seen of the machine behind a run: RCC_CFGR, the source and the latency in effect, the nodes in hertz and the
+/// modes of some pins. Tests hold this and no
 /// machine, since each of their early returns would have to drop it.
 #[derive(Clone, Copy, Debug, PartialEq, Eq)]
 pub(crate) struct Seen {
     pub ran: Ran,
     pub cfgr: u32,
+    pub source: Src,
+    pub latency: u8,
     /// SYSCLK, HCLK, PCLK1, PCLK2 and the timers of the two buses; then the PLL's input, its VCO and the 48 MHz clock, 0
     /// where the PLL is off.
     pub hertz: [u64; 9],
@@ -86,12 +89,12 @@ fn is_known(op: &Op) -> bool
     }
 }
 
-/// One step; an access to a port that there is not is forbidden by no rule's number.
+/// One step; an access to a port that there is not never goes on.
 fn stepped(m: &mut Machine, op: &Op, a: Answer) -> Stepped {
     if is_known(op) {
         m.step(op, a)
     } else {
-        Stepped::Forbidden { rule: 0 }
+        Stepped::Waiting
     }
 }
 
@@ -181,11 +184,21 @@ fn configured(m: &Machine) -> u32 {
     m.word(Reg::Cfgr)
 }
 
+fn source(m: &Machine) -> Src {
+    m.source()
+}
+
+fn latency(m: &Machine) -> u8 {
+    m.latency()
+}
+
 fn look(m: &Machine, ran: Ran, places: [u8; 4]) -> Seen {
     let [a, b, c, d] = places;
     Seen {
         ran,
         cfgr: configured(m),
+        source: source(m),
+        latency: latency(m),
         hertz: frequencies(m),
         modes: [mode(m, a), mode(m, b), mode(m, c), mode(m, d)],
     }
@@ -202,6 +215,24 @@ pub(crate) fn after(
     let mut m = machine(alloc, s)?;
     let ran = run(&mut m, ops, a);
     Ok(look(&m, ran, places))
+}
+
+fn flags_come(m: &mut Machine, a: Answer) {
+    m.come(a)
+}
+
+/// What is seen where no flag comes at these accesses, and then those that are answered.
+pub(crate) fn after_flags(alloc: Global, s: &Setting, ops: &[Op], a: Answer) -> Result<Seen, Fail> {
+    let mut m = machine(alloc, s)?;
+    let none = Answer {
+        hse: false,
+        pll: false,
+        latency: false,
+        switch: false,
+    };
+    let ran = run(&mut m, ops, none);
+    flags_come(&mut m, a);
+    Ok(look(&m, ran, [0; 4]))
 }
 
 /// What is seen behind the accesses that the setting gets.

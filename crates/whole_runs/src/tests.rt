@@ -1,11 +1,11 @@
 //! Expected values are read off RM0090 and the data sheet, or worked out by hand.
 ghost use Rattle.std.specs.Prelude.{◌<◌};
 
-use crate::runs::{Ran, accesses, after, set_up};
+use crate::runs::{Ran, accesses, after, after_flags, set_up};
 use crate::settings::{board, clock_pin};
-use reg_machine::{Answer, Op, Stepped, Timeout};
+use reg_machine::{Answer, Op, Rule, Stepped, Timeout};
 use reg_map::{GpioReg, Reg};
-use res_model::Mode;
+use res_model::{Mode, Src};
 use std::alloc::Global;
 use std::test::Fail;
 
@@ -113,6 +113,7 @@ fn a_crystal_that_never_starts_ends_the_run(rt: HostRuntime) -> Result<(), Fail>
         }
     );
     assert_eq!(rt; seen.cfgr, 0, "SWS says HSI");
+    assert_eq!(rt; seen.source, Src::Hsi);
     assert_eq!(rt; seen.hertz[0], 16_000_000);
     Ok(())
 }
@@ -131,6 +132,8 @@ fn the_board_comes_to_168_mhz(rt: HostRuntime) -> Result<(), Fail> {
         }
     );
     assert_eq!(rt; seen.cfgr, 0x0000_940A, "SWS says the PLL");
+    assert_eq!(rt; seen.source, Src::Pll);
+    assert_eq!(rt; seen.latency, 5);
     let buses = [
         168_000_000,
         168_000_000,
@@ -169,54 +172,91 @@ fn pb3_goes_from_af0_to_af5(rt: HostRuntime) -> Result<(), Fail> {
     Ok(())
 }
 
-/// The last answer to accesses from reset, with the board's target, where no flag ever comes.
-fn last(alloc: Global, ops: &[Op]) -> Result<Stepped, Fail> {
-    Ok(after(alloc, &board(), ops, NO, PLACES)?.ran.last)
+#[test]
+fn a_latency_comes_when_it_is_answered(rt: HostRuntime) -> Result<(), Fail> {
+    let asked = [write(Reg::Acr, 0x0000_0705)];
+    let none = after_flags(rt.alloc(), &board(), asked.as_slice(), NO)?;
+    assert_eq!(rt; none.latency, 0);
+    let come = after_flags(rt.alloc(), &board(), asked.as_slice(), YES)?;
+    assert_eq!(rt; come.latency, 5);
+    Ok(())
+}
+
+/// The last answer to accesses from reset, with the board's target, and whether each state was legal.
+fn ran(alloc: Global, ops: &[Op], a: Answer) -> Result<(Stepped, bool), Fail> {
+    let ran = after(alloc, &board(), ops, a, PLACES)?.ran;
+    Ok((ran.last, ran.legal))
+}
+
+const FINE: (Stepped, bool) = (Stepped::Went, true);
+
+/// No step of it is forbidden, and it is wrong all the same.
+const NOT_LEGAL: (Stepped, bool) = (Stepped::Went, false);
+
+/// Behind the PLL and the dividers, SW asks for 168 MHz.
+#[test]
+fn no_wait_state_is_too_few_for_168_mhz(rt: HostRuntime) -> Result<(), Fail> {
+    let ops = board_clock();
+    let waited = ran(rt.alloc(), &ops[..9], YES)?;
+    assert_eq!(rt; waited, FINE);
+    let early = [ops[0], ops[1], ops[2], ops[3], ops[4], ops[7], ops[8]];
+    let hasty = ran(rt.alloc(), early.as_slice(), YES)?;
+    assert_eq!(rt; hasty, NOT_LEGAL);
+    Ok(())
+}
+
+/// PA11 is USB_DM, at AF10.
+#[test]
+fn a_pin_has_its_function_before_its_mode(rt: HostRuntime) -> Result<(), Fail> {
+    let port_a = |kind| Reg::Gpio { port: 0, kind };
+    let enable = modify(Reg::Ahb1enr, 0, 0x0000_0001);
+    let function = modify(port_a(GpioReg::Afrh), 0x0000_F000, 0x0000_A000);
+    let mode = modify(port_a(GpioReg::Moder), 0x00C0_0000, 0x0080_0000);
+    let right = [enable, read(Reg::Ahb1enr), function, mode];
+    assert_eq!(rt; ran(rt.alloc(), right.as_slice(), NO)?, FINE);
+    let wrong = [enable, read(Reg::Ahb1enr), mode, function];
+    assert_eq!(rt; ran(rt.alloc(), wrong.as_slice(), NO)?, NOT_LEGAL);
+    Ok(())
+}
+
+/// From HSI by 16, N 100 makes a VCO of 100 MHz, the least of the table, and N 50 one of 50 MHz.
+#[test]
+fn a_vco_is_in_range_where_the_pll_is_on(rt: HostRuntime) -> Result<(), Fail> {
+    let on = modify(Reg::Cr, 0, 0x0100_0000);
+    let least = [write(Reg::Pllcfgr, 0x2400_1910), on];
+    assert_eq!(rt; ran(rt.alloc(), least.as_slice(), NO)?, FINE);
+    let half = [write(Reg::Pllcfgr, 0x2400_0C90), on];
+    assert_eq!(rt; ran(rt.alloc(), half.as_slice(), NO)?, NOT_LEGAL);
+    assert_eq!(rt; ran(rt.alloc(), &half[..1], NO)?, FINE, "while it is off");
+    Ok(())
+}
+
+const fn forbidden(rule: Rule) -> (Stepped, bool) {
+    (Stepped::Forbidden { rule }, true)
 }
 
 #[test]
-fn clocks_are_forbidden_from_reset(rt: HostRuntime) -> Result<(), Fail> {
-    let again = [
-        modify(Reg::Cr, 0, 0x0100_0000),
-        write(Reg::Pllcfgr, 0x2400_3010),
-    ];
+fn pllcfgr_is_written_before_the_pll_is_on(rt: HostRuntime) -> Result<(), Fail> {
+    let on = modify(Reg::Cr, 0, 0x0100_0000);
+    let word = write(Reg::Pllcfgr, 0x2400_3010);
+    assert_eq!(rt; ran(rt.alloc(), [word, on].as_slice(), NO)?, FINE);
     assert_eq!(rt;
-        last(rt.alloc(), again.as_slice())?,
-        Stepped::Forbidden { rule: 7 },
-        "PLLON is set"
-    );
-    let hse = [wait(Reg::Cr, 0x0002_0000, 0x0002_0000, 10, Timeout::Hse)];
-    assert_eq!(rt;
-        last(rt.alloc(), hse.as_slice())?,
-        Stepped::Forbidden { rule: 18 },
-        "HSEON is not"
-    );
-    let third = [modify(Reg::Cfgr, 0, 0x0000_0003)];
-    assert_eq!(rt;
-        last(rt.alloc(), third.as_slice())?,
-        Stepped::Forbidden { rule: 9 },
-        "no source has 3"
+        ran(rt.alloc(), [on, word].as_slice(), NO)?,
+        forbidden(Rule::PllcfgrWithPllOn)
     );
     Ok(())
 }
 
 #[test]
-fn a_port_wants_its_enable_read_from_reset(rt: HostRuntime) -> Result<(), Fail> {
-    let moder = write(port_b(GpioReg::Moder), 0x0000_0280);
+fn an_enable_is_read_back_before_its_port(rt: HostRuntime) -> Result<(), Fail> {
     let enable = modify(Reg::Ahb1enr, 0, 0x0000_0002);
+    let moder = write(port_b(GpioReg::Moder), 0x0000_0280);
+    let right = [enable, read(Reg::Ahb1enr), moder];
+    assert_eq!(rt; ran(rt.alloc(), right.as_slice(), NO)?, FINE);
+    let wrong = [enable, read(Reg::Apb1enr), moder];
     assert_eq!(rt;
-        last(rt.alloc(), [moder].as_slice())?,
-        Stepped::Forbidden { rule: 17 },
-        "off"
-    );
-    assert_eq!(rt;
-        last(rt.alloc(), [enable, moder].as_slice())?,
-        Stepped::Forbidden { rule: 17 },
-        "not read"
-    );
-    assert_eq!(rt;
-        last(rt.alloc(), [enable, read(Reg::Ahb1enr), moder].as_slice())?,
-        Stepped::Went
+        ran(rt.alloc(), wrong.as_slice(), NO)?,
+        forbidden(Rule::GpioBeforeEnable)
     );
     Ok(())
 }

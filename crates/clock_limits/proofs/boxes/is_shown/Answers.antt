@@ -1,5 +1,5 @@
 use Rattle.std.proofs.Common.{subst, sym}
-use Rattle.res_model.specs.Ranges.{Allowed}
+use Rattle.clock_limits.specs.Ranges.{Allowed}
 use Rattle.clock_limits.specs.Fair.{IsFair}
 use Rattle.clock_limits.proofs.FairLemmas.{box_is_fair}
 use Rattle.clock_limits.proofs.boxes.is_shown.Goals as goal

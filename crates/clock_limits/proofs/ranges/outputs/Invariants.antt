@@ -1,5 +1,5 @@
 use Rattle.std.proofs.Common.{◌≡◌, drop}
-use Rattle.res_model.specs.Ranges.{with_outputs, outputs}
+use Rattle.clock_limits.specs.Ranges.{with_outputs, outputs}
 use Rattle.clock_limits.proofs.ranges.outputs.Given as goal
 
 abbrev pub invariant-loop-k : goal.invariant-loop-k

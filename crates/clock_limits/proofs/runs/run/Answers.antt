@@ -1,5 +1,5 @@
 use Rattle.std.proofs.Common.{◌≡◌, ◌<◌, [], length, get_or, refl, ◌∙◌, arith}
-use Rattle.res_model.specs.Ranges.{run_of}
+use Rattle.clock_limits.specs.Ranges.{run_of}
 use Rattle.clock_limits.proofs.SpreadLemmas.{same_at}
 use Rattle.clock_limits.proofs.runs.run.Goals as goal
 

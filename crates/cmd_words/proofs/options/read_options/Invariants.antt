@@ -1,6 +1,6 @@
 use Rattle.std.proofs.Common.{◌≡◌, ◌+◌, map, drop}
 use Rattle.std.specs.Prelude.{string_bytes}
-use Rattle.res_model.specs.Words.{given_from, options, IsLimited}
+use Rattle.cmd_words.specs.Words.{given_from, options, IsLimited}
 use Rattle.cmd_words.proofs.options.read_options.Given as goal
 
 abbrev pub invariant-loop-i : goal.invariant-loop-i

@@ -1,5 +1,5 @@
 use Rattle.std.proofs.Common.{◌∙◌, sym, arith, add-one}
-use Rattle.res_model.specs.Project.{domain_tests}
+use Rattle.ioc_project.specs.Project.{domain_tests}
 use Rattle.ioc_project.proofs.FirstOutside.{inside, outside}
 use Rattle.ioc_project.proofs.domains.all_within.Goals as goal
 

@@ -1,5 +1,5 @@
 use Rattle.std.proofs.Common.{◌≡◌, drop}
-use Rattle.res_model.specs.Project.{all_within, domain_tests}
+use Rattle.ioc_project.specs.Project.{all_within, domain_tests}
 use Rattle.ioc_project.proofs.domains.all_within.Given as goal
 
 abbrev pub invariant-loop-place : goal.invariant-loop-place

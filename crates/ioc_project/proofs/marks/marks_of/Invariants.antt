@@ -1,5 +1,5 @@
 use Rattle.std.proofs.Common.{◌≡◌, ◌++◌, drop, map}
-use Rattle.res_model.specs.Project.{marks_of}
+use Rattle.ioc_project.specs.Project.{marks_of}
 use Rattle.ioc_project.proofs.marks.marks_of.Given as goal
 
 abbrev pub invariant-loop-line : goal.invariant-loop-line

@@ -1,5 +1,5 @@
 use Rattle.std.proofs.Common.{◌≡◌, ◌+◌, drop}
-use Rattle.res_model.specs.Project.{needs_from}
+use Rattle.ioc_project.specs.Project.{needs_from}
 use Rattle.res_model.specs.Steps.{with_front}
 use Rattle.ioc_project.proofs.needs.push_needs.Given as goal
 

@@ -1,4 +1,4 @@
-use Rattle.res_model.specs.Project.{kept_of}
+use Rattle.ioc_project.specs.Project.{kept_of}
 use Rattle.ioc_project.proofs.part.kept_of.Goals as goal
 
 pub returns : goal.returns

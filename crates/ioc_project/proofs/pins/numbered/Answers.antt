@@ -1,5 +1,5 @@
 use Rattle.std.proofs.Common.{◌∙◌, ℕ, List, refl, sym, ap}
-use Rattle.res_model.specs.Lines.{pin_number}
+use Rattle.ioc_text.specs.Lines.{pin_number}
 use Rattle.ioc_project.proofs.PinOrder.{put, passed}
 use Rattle.ioc_project.proofs.pins.numbered.Goals as goal
 use Rattle.ioc_project.proofs.pins.numbered.Goals.{in-Some+in_ok-insert, in_default}

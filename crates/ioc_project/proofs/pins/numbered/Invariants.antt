@@ -1,5 +1,5 @@
 use Rattle.std.proofs.Common.{◌≡◌, [], drop}
-use Rattle.res_model.specs.Project.{numbered}
+use Rattle.ioc_project.specs.Project.{numbered}
 use Rattle.ioc_project.specs.Views.{seen}
 use Rattle.ioc_project.proofs.pins.numbered.Given as goal
 

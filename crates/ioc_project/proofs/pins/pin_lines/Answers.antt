@@ -1,7 +1,7 @@
 use Rattle.std.proofs.Common.{◌∙◌, ℕ, [], ap, map}
 use Rattle.std.specs.Borrow.{Bor}
-use Rattle.res_model.specs.declared.line.Line.{Line}
-use Rattle.res_model.specs.Project.{numbered, pin_lines}
+use Rattle.ioc_text.specs.declared.line.Line.{Line}
+use Rattle.ioc_project.specs.Project.{numbered, pin_lines}
 use Rattle.ioc_project.proofs.PinOrder.{lines_seen}
 use Rattle.ioc_project.proofs.pins.pin_lines.Goals as goal
 

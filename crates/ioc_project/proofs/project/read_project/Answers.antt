@@ -1,4 +1,4 @@
-use Rattle.res_model.proofs.ProjectLaws.{answer_keeps}
+use Rattle.ioc_project.proofs.ProjectLaws.{answer_keeps}
 use Rattle.ioc_project.proofs.project.read_project.Goals as goal
 
 pub returns-clause-keeps : goal.returns-clause-keeps

@@ -1,5 +1,5 @@
 use Rattle.std.proofs.Common.{◌≡◌, drop, map}
-use Rattle.res_model.specs.Project.{signals_after}
+use Rattle.ioc_project.specs.Project.{signals_after}
 use Rattle.ioc_project.proofs.signals.push_signals.Given as goal
 
 abbrev pub invariant-loop-line : goal.invariant-loop-line

@@ -1,5 +1,5 @@
 use Rattle.std.proofs.Common.{◌≡◌, drop}
-use Rattle.res_model.specs.Lines.{equals_at, equals_from}
+use Rattle.ioc_text.specs.Lines.{equals_at, equals_from}
 use Rattle.ioc_text.proofs.escapes.equals_at.Given as goal
 
 abbrev pub invariant-loop-at : goal.invariant-loop-at

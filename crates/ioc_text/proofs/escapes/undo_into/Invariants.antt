@@ -1,5 +1,5 @@
 use Rattle.std.proofs.Common.{◌≡◌, drop}
-use Rattle.res_model.specs.Lines.{after_bytes, undone, undone_from}
+use Rattle.ioc_text.specs.Lines.{after_bytes, undone, undone_from}
 use Rattle.ioc_text.proofs.escapes.undo_into.Given as goal
 
 abbrev pub invariant-loop-b : goal.invariant-loop-b

@@ -1,8 +1,8 @@
 use Rattle.std.proofs.Common.{◌≡◌, ◌∙◌, ◌+◌, ℕ, List, Ok, Some, sym, ap, arith}
 use Rattle.std.specs.Str.Lines.{lines}
-use Rattle.res_model.specs.Lines.{ioc_after, line_of}
+use Rattle.ioc_text.specs.Lines.{ioc_after, line_of}
 use Rattle.res_model.specs.Steps.{◌>>=◌}
-use Rattle.res_model.specs.declared.line.Line.{Line}
+use Rattle.ioc_text.specs.declared.line.Line.{Line}
 use Rattle.ioc_text.specs.Index.{each_once}
 use Rattle.ioc_text.proofs.Once.{named}
 use Rattle.ioc_text.proofs.read.read_ioc.Goals as goal

@@ -1,6 +1,6 @@
 use Rattle.std.proofs.Common.{◌≡◌, ◌+◌, ◌≤◌, length}
 use Rattle.std.specs.Str.Lines.{lines}
-use Rattle.res_model.specs.Lines.{ioc_after, ioc_of}
+use Rattle.ioc_text.specs.Lines.{ioc_after, ioc_of}
 use Rattle.res_model.specs.Steps.{◌>>=◌}
 use Rattle.ioc_text.specs.Index.{each_once}
 use Rattle.ioc_text.proofs.read.read_ioc.Given as goal

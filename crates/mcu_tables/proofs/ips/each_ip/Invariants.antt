@@ -1,5 +1,5 @@
 use Rattle.std.proofs.Common.{◌≡◌, [], map, drop}
-use Rattle.res_model.specs.Table.{entries_after, ip}
+use Rattle.mcu_tables.specs.Table.{entries_after, ip}
 use Rattle.serde_json.specs.View.{view}
 use Rattle.mcu_tables.specs.Places.{path_of}
 use Rattle.mcu_tables.specs.declared.place.Spot.TheVariants.{Top}

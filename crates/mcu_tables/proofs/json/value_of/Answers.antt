@@ -1,8 +1,8 @@
 use Rattle.std.proofs.Common.{◌≡◌, ap, sym, ◌∙◌, Option}
 use Rattle.serde_json.specs.Data.{Data}
 use Rattle.serde_json.specs.Read.{read}
-use Rattle.res_model.specs.Table.{due}
-use Rattle.res_model.specs.declared.fault.TableFault.TheVariants as fault
+use Rattle.mcu_tables.specs.Table.{due}
+use Rattle.mcu_tables.specs.declared.fault.TableFault.TheVariants as fault
 use Rattle.mcu_tables.proofs.JsonLemmas.{json_of_text}
 use Rattle.mcu_tables.proofs.json.value_of.Goals as goal
 

@@ -1,4 +1,4 @@
-use Rattle.res_model.proofs.TableValid.{tables_valid}
+use Rattle.mcu_tables.proofs.TableValid.{tables_valid}
 use Rattle.mcu_tables.proofs.read.read_tables.Goals as goal
 
 pub of-requires : goal.of-requires

@@ -1,8 +1,8 @@
 use Rattle.std.proofs.Common.{rules, ◌≡◌, sym, ap, subst, ◌∙◌, Result, Ok, Err}
 use Rattle.serde_json.specs.View.{view}
-use Rattle.res_model.specs.Table.{defaults}
+use Rattle.mcu_tables.specs.Table.{defaults}
 use Rattle.mcu_tables.specs.Places.{Reads}
-use Rattle.res_model.specs.declared.fault.TableFault.{TableFault}
+use Rattle.mcu_tables.specs.declared.fault.TableFault.{TableFault}
 use Rattle.res_model.specs.declared.table.TableParts.{TableParts}
 use Rattle.mcu_tables.proofs.ReadLemmas.{table_ends, step, refused_reads}
 use Rattle.mcu_tables.proofs.ScaleLemmas.{vos_small}

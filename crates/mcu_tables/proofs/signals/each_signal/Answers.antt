@@ -1,5 +1,5 @@
 use Rattle.std.proofs.Common.{rules, List, [], map, sym, subst, ◌∙◌, arith}
-use Rattle.res_model.specs.Table.{entries_after, signal}
+use Rattle.mcu_tables.specs.Table.{entries_after, signal}
 use Rattle.serde_json.specs.View.{view}
 use Rattle.res_model.specs.declared.table.TableSignal.{TableSignal}
 use Rattle.mcu_tables.specs.Places.{path_of}

@@ -7,7 +7,6 @@ use Rattle.refutation.proofs.read.nodes_in.Given as goal
 abbrev pub invariant-loop-due : goal.invariant-loop-due
 invariant-loop-due l = record {
   same : forms_from l.first 1 (lines_of l.text) ≡ with_front (map form_of l.nodes.items) (forms_from l.number l.due (lines_of l.rest));
-  few : l.number + length l.rest ≤ l.first + length l.text;
   small : l.due + length l.rest ≤ length l.text + 1;
 }
 

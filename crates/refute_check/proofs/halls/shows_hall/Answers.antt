@@ -17,7 +17,7 @@ are_of c = record {
 }
 
 can : (c : After-ends_from-hi) → CanCount c.parts-parts.result.now.first c.as_slice-uses.result.now c.parts-t.result.now c.ends_from-lo.result.now c.ends_from-hi.result.now
-can c = can_count c.args.p.now c.is_whole.ensures.ready c.args.b.now c.requires.is_box (omega arith) (omega arith) c.parts-parts.result.now.first c.as_slice-uses.result.now c.parts-t.result.now c.ends_from-lo.result.now c.ends_from-hi.result.now (are_of c)
+can c = can_count c.args.p.now c.requires.whole.ready c.args.b.now c.requires.is_box (omega arith) (omega arith) c.parts-parts.result.now.first c.as_slice-uses.result.now c.parts-t.result.now c.ends_from-lo.result.now c.ends_from-hi.result.now (are_of c)
 
 pub are_too_many-requires-clause-few : goal.are_too_many-requires-clause-few
 are_too_many-requires-clause-few c = (can (goal.at.are_too_many-requires-clause-few c).After-ends_from-hi).few
@@ -37,4 +37,4 @@ are_too_many-requires-clause-resources c = (can (goal.at.are_too_many-requires-c
 pub returns : goal.returns
 returns c =
     c.are_too_many.ensures
-    ∙ count_is c.args.p.now c.is_whole.ensures.ready c.args.b.now c.requires.is_box (omega arith) (omega arith) c.args.class c.args.vars.now c.parts-parts.result.now.first c.as_slice-uses.result.now c.parts-t.result.now c.ends_from-lo.result.now c.ends_from-hi.result.now (are_of (goal.at.returns c).After-ends_from-hi)
+    ∙ count_is c.args.p.now c.requires.whole.ready c.args.b.now c.requires.is_box (omega arith) (omega arith) c.args.class c.args.vars.now c.parts-parts.result.now.first c.as_slice-uses.result.now c.parts-t.result.now c.ends_from-lo.result.now c.ends_from-hi.result.now (are_of (goal.at.returns c).After-ends_from-hi)

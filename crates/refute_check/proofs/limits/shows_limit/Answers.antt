@@ -5,7 +5,7 @@ use Rattle.problem.specs.Problem.{HaveValues}
 use Rattle.res_model.specs.declared.clock.ClockBox.{ClockBox}
 use Rattle.res_model.specs.declared.clock.Facts.{Facts}
 use Rattle.res_model.specs.declared.table.TableParts.{TableParts}
-use Rattle.res_model.specs.Ranges.{IsClockBox, shows_limit}
+use Rattle.clock_limits.specs.Ranges.{IsClockBox, shows_limit}
 use Rattle.box_rules.specs.Judged.{clock_box}
 use Rattle.box_rules.proofs.WholeLemmas.{is_clock_box}
 use Rattle.refute_check.proofs.ClockLemmas.{clock_box_is}
@@ -22,7 +22,7 @@ box_is c = ap (λ (xs : List ℕ). record { lo = xs; hi = c.clock_box.result.hi 
 clocks_are : (c : After-clock_box) → c.clock_box.result ≡ clock_box (box_in c.args.p.now.shape c.args.b.now)
 clocks_are c =
     let p = c.args.p.now in
-    let w = c.is_whole.ensures in
+    let w = c.requires.whole in
     let sizes = subst (λ (n : ℕ). HaveValues (take n p.shape) p.clock) (w.first ∙ sym w.clock.ten) w.clock_sizes in
     box_is c ∙ clock_box_is p.shape p.clock c.args.b.now.lo c.args.b.now.hi w.clock.ten sizes c.requires.is_box
 
@@ -32,7 +32,7 @@ is_shown-requires-clause-is_box d =
     let p = c.args.p.now in
     subst (λ (xs : List (List ℕ)). IsClockBox xs c.clock_box.result) (sym (values_are c))
     (subst (λ (x : ClockBox). IsClockBox p.clock x) (sym (clocks_are c))
-    (is_clock_box p c.is_whole.ensures (box_in p.shape c.args.b.now) c.requires.is_box))
+    (is_clock_box p c.requires.whole (box_in p.shape c.args.b.now) c.requires.is_box))
 
 pub returns : goal.returns
 returns d =

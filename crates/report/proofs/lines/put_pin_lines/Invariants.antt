@@ -1,5 +1,5 @@
 use Rattle.std.proofs.Common.{◌≡◌, ◌++◌, drop}
-use Rattle.res_model.specs.PinText.{pin_lines}
+use Rattle.report.specs.PinText.{pin_lines}
 use Rattle.report.proofs.lines.put_pin_lines.Given as goal
 
 abbrev pub invariant-loop-k : goal.invariant-loop-k

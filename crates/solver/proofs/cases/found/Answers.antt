@@ -4,6 +4,8 @@ use Rattle.problem.specs.Meets.{meets}
 use Rattle.problem.specs.declared.parts.ProblemParts.{ProblemParts}
 use Rattle.report.specs.Cases.{case_text}
 use Rattle.solver.specs.Owed.{made}
+use Rattle.answers.specs.Said.{answered}
+use Rattle.answers.specs.declared.answer.Status.TheVariants.{Done}
 use Rattle.solver.proofs.cases.found.Goals as goal
 
 pub returns : goal.returns
@@ -13,4 +15,4 @@ returns c =
     let low : IsLeast p.shape (meets p) at =
     subst (λ (q : ProblemParts). IsLeast q.shape (meets p) at) c.parts.ensures
     (c.in_ok-at.ensures.least (meets p) (subst (λ (q : ProblemParts). IsAnswer q.shape (meets p) (Some c.args.rank)) (sym c.parts.ensures) c.requires.answer)) in
-    made at low refl (c.in_ok-text.ensures ∙ ap (λ (l : List ℕ). case_text c.args.number p l) c.as_slice.ensures.value)
+    made at low (ap (answered Done) (c.of.ensures ∙ c.in_ok-text.ensures ∙ ap (λ (l : List ℕ). case_text c.args.number p l) c.as_slice.ensures.value))

@@ -16,7 +16,7 @@ checked-requires-clause-whole c = subst (λ (q : ProblemParts). q.first ≢ 0) (
 pub returns-in-Ok : goal.returns-in-Ok
 unfolding problem_of
 returns-in-Ok c =
-    IfOk-weaker c.checked.result _ _ (λ a due. narrow c.in-Ok.ensures.narrow (subst (λ (q : ProblemParts). OfProof c.args.text.now q a.status a.text.items) c.in-Ok.ensures.problem due)) c.checked.ensures
+    IfOk-weaker c.checked.result _ _ (λ a due. narrow c.in-Ok.ensures.narrow (subst (λ (q : ProblemParts). OfProof c.args.text.now q a) c.in-Ok.ensures.problem due)) c.checked.ensures
 
 pub returns-in-Err-TooWide : goal.returns-in-Err-TooWide
 unfolding problem_of

@@ -7,8 +7,9 @@ use Rattle.refutation.specs.declared.node.ProofFault.TheVariants as fault
 use Rattle.refutation.specs.Forms.{form_of}
 use Rattle.refutation.specs.Reading.{Refuses, proof_of}
 use Rattle.solver.specs.Owed.{nodes, unread}
-use Rattle.solver.specs.Said.{Says}
-use Rattle.solver.proofs.FewLemmas.{few_nodes}
+use Rattle.answers.specs.Said.{Says}
+use Rattle.answers.specs.declared.answer.Status.TheVariants.{ProofRefused}
+use Rattle.refutation.proofs.FewLemmas.{few_nodes}
 use Rattle.solver.proofs.checked.checked.Goals as goal
 
 pub judged-requires-clause-few : goal.judged-requires-clause-few
@@ -23,4 +24,4 @@ returns-in-Ok c = IfOk-weaker c.judged.result _ _ (λ a due. nodes c.in-Ok.proof
 pub returns-in-Err-Line : goal.returns-in-Err-Line
 returns-in-Err-Line c =
     let fault : Refuses (fault.Line c.in-Err-Line.line) (proof_of c.args.text.now) = subst (λ (f : ProofFault). Refuses f (proof_of c.args.text.now)) c.in-Err-Line.field-0-is c.in-Err-Line.ensures in
-    IfOk-weaker c.counts.result _ _ (λ a says. unread c.in-Err-Line.line fault (subst (λ (n : ℕ). Says a.status a.text.items 10 (codes "proof: line " ++ decimal n)) c.from.ensures says)) c.counts.ensures
+    IfOk-weaker c.counts.result _ _ (λ a says. unread c.in-Err-Line.line fault (subst (λ (n : ℕ). Says a ProofRefused (codes "proof: line " ++ decimal n)) c.from.ensures says)) c.counts.ensures

@@ -8,6 +8,8 @@ use Rattle.problem.specs.Meets.{meets}
 use Rattle.problem.specs.declared.parts.ProblemParts.{ProblemParts}
 use Rattle.report.specs.Reported.{report_text}
 use Rattle.solver.specs.Owed.{AreSound, IsMore, solved}
+use Rattle.answers.specs.Said.{answered}
+use Rattle.answers.specs.declared.answer.Status.TheVariants.{Done}
 use Rattle.solver.proofs.whole.reported.Goals as goal
 
 pub report_of-requires-clause-meets : goal.report_of-requires-clause-meets
@@ -26,4 +28,4 @@ returns c =
     let sound : AreSound p at = subst (AreSound p) c.as_slice.ensures.value c.in_ok-text.ensures.sound in
     let more : IsMore c.args.proof (whole_meaning p) (Some (rank_of p.shape at)) c.args.more.now = subst (λ (r : ℕ). IsMore c.args.proof (whole_meaning p) (Some r) c.args.more.now) (sym rank) c.requires.more in
     let report : c.in_ok-text.text.items ≡ report_text p at (writes_of (setting_of p at)) = c.in_ok-text.ensures.report ∙ ap (λ (l : List ℕ). report_text p l (writes_of (setting_of p l))) c.as_slice.ensures.value in
-    solved at c.args.more.now low sound more refl (c.in_ok-extend_from_slice.ensures.items ∙ ap (λ (l : List ℕ). l ++ c.args.more.now) report)
+    solved at c.args.more.now low sound more (ap (answered Done) (c.of.ensures ∙ c.in_ok-extend_from_slice.ensures.items ∙ ap (λ (l : List ℕ). l ++ c.args.more.now) report))

@@ -16,7 +16,7 @@ searched-requires c = subst (λ (q : ProblemParts). q.first ≢ 0) (sym c.in-Ok.
 pub returns-in-Ok : goal.returns-in-Ok
 unfolding problem_of
 returns-in-Ok c =
-    IfOk-weaker c.searched.result _ _ (λ a due. narrow c.in-Ok.ensures.narrow (subst (λ (q : ProblemParts). OfWhole c.args.proof q a.status a.text.items) c.in-Ok.ensures.problem due)) c.searched.ensures
+    IfOk-weaker c.searched.result _ _ (λ a due. narrow c.in-Ok.ensures.narrow (subst (λ (q : ProblemParts). OfWhole c.args.proof q a) c.in-Ok.ensures.problem due)) c.searched.ensures
 
 pub returns-in-Err-TooWide : goal.returns-in-Err-TooWide
 unfolding problem_of

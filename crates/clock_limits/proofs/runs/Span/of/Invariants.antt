@@ -1,5 +1,5 @@
 use Rattle.std.proofs.Common.{◌≡◌, drop}
-use Rattle.res_model.specs.Ranges.{least_from, greatest_from}
+use Rattle.clock_limits.specs.Ranges.{least_from, greatest_from}
 use Rattle.clock_limits.proofs.runs.Span.of.Given as goal
 
 abbrev pub invariant-loop-v : goal.invariant-loop-v

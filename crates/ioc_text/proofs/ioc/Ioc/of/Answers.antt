@@ -1,5 +1,5 @@
 use Rattle.std.proofs.Common.{◌<◌, ◌≤◌, List, length, arith, subst}
-use Rattle.res_model.specs.declared.line.Line.{Line}
+use Rattle.ioc_text.specs.declared.line.Line.{Line}
 use Rattle.ioc_text.specs.Index.{IsFirstRepeat}
 use Rattle.ioc_text.proofs.Once.{one_told, none_told}
 use Rattle.ioc_text.proofs.ioc.Ioc.of.Goals as goal

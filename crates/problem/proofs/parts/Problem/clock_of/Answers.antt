@@ -1,7 +1,7 @@
 use Rattle.std.proofs.Common.{◌≡◌, ◌∙◌, ℕ, ◌<◌, ◌^◌, List, length, sym, subst, ap, arith}
 use Rattle.std.specs.Prelude.{slice_index}
 use Rattle.res_model.specs.Clock.{IsInRange}
-use Rattle.res_model.specs.Ranges.{values_at}
+use Rattle.clock_limits.specs.Ranges.{values_at}
 use Rattle.res_model.specs.Valid.{IsValid}
 use Rattle.problem.specs.declared.parts.ProblemParts.{ProblemParts}
 use Rattle.problem.specs.ClockValues.{clock_at, clock_value}

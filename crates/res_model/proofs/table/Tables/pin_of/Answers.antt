@@ -1,8 +1,8 @@
 use Rattle.std.proofs.Common.{◌≡◌, List, ap, sym, subst, ◌∙◌, None}
-use Rattle.res_model.specs.Table.{place}
+use Rattle.res_model.specs.PinNames.{place}
 use Rattle.res_model.specs.declared.table.Pin.{Pin}
 use Rattle.res_model.specs.declared.table.TableParts.{TableParts}
-use Rattle.res_model.proofs.PinLaws.{no_place}
+use Rattle.res_model.proofs.PlaceLaws.{no_place}
 use Rattle.res_model.proofs.table.Tables.pin_of.Goals as goal
 
 pub returns-in-None-clause-none : goal.returns-in-None-clause-none

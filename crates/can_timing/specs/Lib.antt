@@ -1,0 +1,5 @@
+pub mod Judged
+pub mod Lawful
+pub mod Order
+pub mod Texts
+pub mod Timings

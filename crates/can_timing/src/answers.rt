@@ -1,0 +1,116 @@
+ghost use Rattle.std.specs.Prelude.{◌≡◌, ◌++◌, None, Some, IfOk, OnOk};
+ghost use Rattle.choice_rank.specs.Choices.{IsChoice, rank_of};
+ghost use Rattle.choice_rank.specs.Least.{IsAnswer};
+ghost use Rattle.search_api.specs.Accounts.{Accounted};
+ghost use Rattle.can_timing.specs.Timings.{IsTiming, can_shape, timing_of};
+ghost use Rattle.can_timing.specs.Judged.{can_meaning, legal};
+ghost use Rattle.can_timing.specs.Texts.{IsDue, IsRefutation, can_text};
+
+use crate::judge::CanJudge;
+use crate::least::least_of;
+use crate::lines::{point_line, put_btr_line, rank_line, rate_line, segments_line};
+use crate::request::Request;
+use crate::timing::{Timing, timing_of};
+use refutation::{canonical, write_proof};
+use res_base::{OutOfMemory, Ratio};
+use search_api::{Judge, Outcome};
+use serial_search::search;
+use std::alloc::Global;
+
+/// A status and the text that goes with it.
+#[derive(Debug, Drop)]
+pub struct CanAnswer {
+    pub status: u8,
+    pub text: Vec<u8>,
+}
+
+/// The bit timing that serves a request, or the proof that none does.
+///
+/// The clock is in hertz and compares exactly, the rate in bits per second, and the sample point
+/// with its tolerance in per mille of a bit. Status 0: five lines, of the timing of least rank.
+/// Status 1, exactly where no timing serves: the canonical proof.
+pub fn answer(
+    alloc: Global,
+    pclk: Ratio,
+    rate: u32,
+    point: u32,
+    tolerance: u32,
+) -> Result<CanAnswer, OutOfMemory>
+    ensures { IfOk result (λ a. IsDue record { pclk = pclk; rate = rate; point = point; tolerance = tolerance } a.status a.text.items) }
+{
+    let judge = CanJudge::new(alloc, pclk, rate, point, tolerance)?;
+    let outcome = search(alloc, &judge)?;
+    match outcome.best {
+        Some(rank) => found(alloc, &judge, rank),
+        None => refuted(alloc, &judge, &outcome),
+    }
+}
+
+/// What is due where a rank is the least.
+fn found(alloc: Global, j: &CanJudge, rank: u64) -> Result<CanAnswer, OutOfMemory>
+    requires { IsAnswer can_shape (legal j.now.request) (Some rank) }
+    ensures { IfOk result (λ a. IsDue j.now.request a.status a.text.items) }
+{
+    let at = least_of(alloc, j.shape(), rank)?;
+    let text = can_text(alloc, j, at.as_slice())?;
+    Ok(CanAnswer { status: 0, text })
+}
+
+/// What is due where no choice serves.
+fn refuted(alloc: Global, j: &CanJudge, o: &Outcome) -> Result<CanAnswer, OutOfMemory>
+    requires accounted { Accounted (can_meaning j.now.request) o.now.best o.now.kept o.now.closed }
+    requires none { o.now.best ≡ None }
+    requires answer { IsAnswer can_shape (legal j.now.request) None }
+    ensures { IfOk result (λ a. IsDue j.now.request a.status a.text.items) }
+{
+    let text = refutation_text(alloc, j, o)?;
+    Ok(CanAnswer { status: 1, text })
+}
+
+/// The text of the canonical proof of an outcome without a best rank.
+fn refutation_text(alloc: Global, j: &CanJudge, o: &Outcome) -> Result<Vec<u8>, OutOfMemory>
+    requires accounted { Accounted (can_meaning j.now.request) o.now.best o.now.kept o.now.closed }
+    requires none { o.now.best ≡ None }
+    ensures { IfOk result (λ x. IsRefutation (can_meaning j.now.request) x.items) }
+{
+    let proof = canonical(alloc, j.shape(), o)?;
+    let text = write_proof(alloc, &proof)?;
+    Ok(text)
+}
+
+/// That the timing of a choice lies in its ranges.
+fn in_ranges(at: &[u16]) -> Timing
+    requires { IsChoice can_shape at.now }
+    ensures is { result ≡ timing_of at.now }
+    ensures ranges { IsTiming result }
+{
+    timing_of(at)
+}
+
+/// The rank of a choice.
+fn rank_of(j: &CanJudge, at: &[u16]) -> u64
+    requires { IsChoice can_shape at.now }
+    ensures { result ≡ rank_of can_shape at.now }
+{
+    j.shape().rank(at)
+}
+
+/// The five lines of a choice: its rank, the timing, its quanta with the sample point in whole per
+/// mille, the clock in whole hertz with the rate, and the register CAN_BTR.
+#[tactic(auto, unfolding(crate::specs::Texts::can_text))]
+pub fn can_text(alloc: Global, j: &CanJudge, at: &[u16]) -> Result<Vec<u8>, OutOfMemory>
+    requires { IsChoice can_shape at.now }
+    ensures { IfOk result (λ x. x.items ≡ can_text j.now.request at.now) }
+{
+    let t = in_ranges(at);
+    let rank = rank_line(alloc, rank_of(j, at))?;
+    let segments = segments_line(alloc, t)?;
+    let point = point_line(alloc, t)?;
+    let rate = rate_line(alloc, &j.request)?;
+    let mut out = Vec::from_slice(alloc, rank.as_bytes())?;
+    out.extend_from_slice(segments.as_bytes())?;
+    out.extend_from_slice(point.as_bytes())?;
+    out.extend_from_slice(rate.as_bytes())?;
+    put_btr_line(&mut out, t)?;
+    Ok(out)
+}

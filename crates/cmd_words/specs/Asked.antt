@@ -1,0 +1,28 @@
+-- What a command reads, and what it may do.
+use Rattle.std.specs.Prelude.{ℕ, List, [], ◌∷◌, Bool, true, false}
+use Rattle.cmd_words.specs.declared.command.Command.{Command}
+use Rattle.cmd_words.specs.declared.command.Command.TheVariants.{Pins, Tree, Resolve, Check, Case}
+
+-- the inputs that a command reads, in their order
+abbrev pub inputs_of : Command → List (List ℕ)
+inputs_of (Pins tables project opts) = tables ∷ project ∷ []
+inputs_of (Tree tables project opts) = tables ∷ project ∷ []
+inputs_of (Resolve tables project opts workers proof) = tables ∷ project ∷ []
+inputs_of (Check tables project proof opts) = tables ∷ project ∷ proof ∷ []
+inputs_of (Case number workers) = []
+
+-- the commands that may start threads
+abbrev pub may_wait : Command → Bool
+may_wait (Pins tables project opts) = false
+may_wait (Tree tables project opts) = false
+may_wait (Resolve tables project opts workers proof) = true
+may_wait (Check tables project proof opts) = false
+may_wait (Case number workers) = true
+
+-- the workers that a command asks for
+abbrev pub workers_asked : Command → ℕ
+workers_asked (Pins tables project opts) = 1
+workers_asked (Tree tables project opts) = 1
+workers_asked (Resolve tables project opts workers proof) = workers
+workers_asked (Check tables project proof opts) = 1
+workers_asked (Case number workers) = workers

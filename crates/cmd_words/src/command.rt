@@ -1,0 +1,123 @@
+//! What words ask for.
+ghost use Rattle.std.specs.Prelude.{◌≡◌, [], ◌∷◌, IfOk};
+ghost use Rattle.cmd_words.specs.Asked.{inputs_of, may_wait, workers_asked};
+
+use res_base::{OutOfMemory, Text};
+use res_model::Opts;
+use std::alloc::Global;
+
+/// What the words of the command line ask for.
+#[derive(Debug, Drop)]
+pub enum Command {
+    /// The least placement of the pins.
+    Pins {
+        tables: Text,
+        project: Text,
+        opts: Opts,
+    },
+    /// The clock tree as the project has it.
+    Tree {
+        tables: Text,
+        project: Text,
+        opts: Opts,
+    },
+    /// The least choice of pins and clocks, with the code that sets both up.
+    Resolve {
+        tables: Text,
+        project: Text,
+        opts: Opts,
+        workers: u32,
+        proof: bool,
+    },
+    /// Whether a refutation or a proof of a least rank holds.
+    Check {
+        tables: Text,
+        project: Text,
+        proof: Text,
+        opts: Opts,
+    },
+    /// A made case of this number, resolved.
+    Case {
+        number: u64,
+        workers: u32,
+    },
+}
+
+/// The names of a table and a project.
+fn two_names(alloc: Global, tables: &Text, project: &Text) -> Result<Vec<Text>, OutOfMemory>
+    ensures { IfOk result (λ names. names.items ≡ tables.now ∷ project.now ∷ []) }
+{
+    Ok(vec![in alloc;
+        Text::copy(alloc, tables.as_str())?,
+        Text::copy(alloc, project.as_str())?,
+    ]?)
+}
+
+/// The names of a table, a project and a proof.
+fn three_names(
+    alloc: Global,
+    tables: &Text,
+    project: &Text,
+    proof: &Text,
+) -> Result<Vec<Text>, OutOfMemory>
+    ensures { IfOk result (λ names. names.items ≡ tables.now ∷ project.now ∷ proof.now ∷ []) }
+{
+    Ok(vec![in alloc;
+        Text::copy(alloc, tables.as_str())?,
+        Text::copy(alloc, project.as_str())?,
+        Text::copy(alloc, proof.as_str())?,
+    ]?)
+}
+
+impl Command {
+    /// The names of the inputs that it reads, in their order.
+    pub fn inputs(&self, alloc: Global) -> Result<Vec<Text>, OutOfMemory>
+        ensures { IfOk result (λ names. names.items ≡ inputs_of self.now) }
+    {
+        match self {
+            Command::Pins {
+                tables,
+                project,
+                ..
+            } => two_names(alloc, tables, project),
+            Command::Tree {
+                tables,
+                project,
+                ..
+            } => two_names(alloc, tables, project),
+            Command::Resolve {
+                tables,
+                project,
+                ..
+            } => two_names(alloc, tables, project),
+            Command::Check {
+                tables,
+                project,
+                proof,
+                ..
+            } => three_names(alloc, tables, project, proof),
+            Command::Case { .. } => Ok(Vec::new(alloc)),
+        }
+    }
+
+    /// Whether it may start threads.
+    pub fn may_wait(&self) -> bool
+        ensures { result ≡ may_wait self.now }
+    {
+        match self {
+            Command::Resolve { .. } | Command::Case { .. } => true,
+            _ => false,
+        }
+    }
+
+    /// The workers that it asks for.
+    pub fn workers(&self) -> u32
+        ensures { result ≡ workers_asked self.now }
+    {
+        match self {
+            Command::Resolve { workers, .. } => *workers,
+            Command::Case { workers, .. } => *workers,
+            _ => 1,
+        }
+    }
+}

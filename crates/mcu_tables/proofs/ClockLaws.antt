@@ -1,0 +1,199 @@
+-- What the names, the clock's domains and the limits of a table that is read keep.
+use Rattle.std.proofs.Common.{◌≡◌, ◌≢◌, ℕ, suc, ◌<◌, ◌≤◌, ◌+◌, ◌-◌, List, [], ◌∷◌, ◌++◌, length, Bool, true, false, Option, Some, None, Result, Ok, Err, refl, sym, ap, subst, arith, ◌∙◌, ltb-true, eqb-true}
+use Rattle.std.specs.Prelude.{◌==◌, nat_lt, codes, slice_get, option_map}
+use Rattle.std.specs.List.{list_any}
+use Rattle.std.specs.Str.{bytes_eq}
+use Rattle.std.proofs.lemmas.Grind.{common_steps}
+use Rattle.res_base.specs.Lists.{Each, Member, Pairwise}
+use Rattle.res_base.proofs.ListLemmas.{each_push, each_map}
+use Rattle.res_model.specs.Steps.{◌>>=◌}
+use Rattle.mcu_tables.specs.Json.{entries, inside, number}
+use Rattle.res_model.specs.ClockValues.{pll_dividers, ahb_dividers, apb_dividers, known_scales}
+use Rattle.mcu_tables.specs.Table.{below, due, must, need, nested, text, fresh, distinct_text, number_within, number_among, pair_within, entries_after, is_above_last, is_above, above, next_among, some_among, one_among, clock, limits}
+use Rattle.res_model.specs.Valid.{IsText, IsRange, AreAmong, AreDomains}
+use Rattle.res_model.proofs.PlaceLaws.{differ}
+use Rattle.mcu_tables.proofs.TableLaws.{bound, reads, same_ok, due_some, must_holds, fresh_new, need_keeps, none_passes, text_keeps, number_keeps, among_keeps, pair_keeps, entries_keep, Kept, list_keeps}
+use Rattle.mcu_tables.proofs.PinLaws.{AreKept, one_more}
+use Rattle.serde_json.specs.Data.{Data}
+use Rattle.mcu_tables.specs.declared.fault.TableFault.{TableFault}
+use Rattle.mcu_tables.specs.declared.fault.TableFault.TheVariants.{BadField}
+use Rattle.res_model.specs.declared.table.Domains.{Domains}
+use Rattle.res_model.specs.declared.table.Bounds.{Bounds}
+
+-- ---- distinct texts
+
+abbrev pub DifferTexts : List ℕ → List ℕ → Type 0
+DifferTexts a b = a ≢ b
+
+pub distinct_keeps : (before : List (List ℕ)) (path : List ℕ) (d : Data) (w : List ℕ) → AreKept IsText DifferTexts before → distinct_text before path d ≡ Ok w → AreKept IsText DifferTexts (before ++ w ∷ [])
+unfolding distinct_text
+distinct_keeps before path d w kept h =
+    let t = bound (text path d) _ w h in
+    let f = fresh_new path (list_any (λ x. bytes_eq x t.0) before) t.0 w t.2 in
+    one_more IsText DifferTexts before w kept (subst IsText f.1 (text_keeps path d t.0 t.1))
+    (each_map (λ x. bytes_eq x t.0 ≡ false) (λ x. DifferTexts x w) before (λ x e. subst (λ (y : List ℕ). DifferTexts x y) f.1 (differ x t.0 e)) (none_passes (λ x. bytes_eq x t.0) before f.0))
+
+-- ---- ascending lists
+
+abbrev pub final : {X : Type 0} → X → List X → X
+final x [] = x
+final x (y ∷ ys) = final y ys
+
+pub last_is : {X : Type 0} (x : X) (xs : List X) → slice_get (x ∷ xs) (length (x ∷ xs) - 1) ≡ Some (final x xs)
+last_is x [] = refl
+last_is x (y ∷ ys) =
+    let e : length (x ∷ y ∷ ys) - 1 ≡ suc (length (y ∷ ys) - 1) = omega arith in
+    rw e (last_is y ys)
+
+-- n is above the end of each where it is above the last's, and each ends at its start or later
+pub above_each : {X : Type 0} (start end : X → ℕ) (n : ℕ) (x : X) (xs : List X) → Each (λ y. start y ≤ end y) (x ∷ xs) → Pairwise (λ a b. end a < start b) (x ∷ xs) → end (final x xs) < n → Each (λ y. end y < n) (x ∷ xs)
+above_each start end n x [] fits apart h = (h, tt)
+above_each start end n x (y ∷ ys) fits apart h =
+    let r = above_each start end n y ys fits.1 apart.1 h in
+    (omega (arith, apart.0.0, fits.1.0, r.0), r)
+
+self_fits : (xs : List ℕ) → Each (λ (x : ℕ). x ≤ x) xs
+self_fits [] = tt
+self_fits (x ∷ xs) = (omega arith, self_fits xs)
+
+pub all_below : (ms : List ℕ) (n : ℕ) → Pairwise ◌<◌ ms → is_above ms n ≡ true → Each (λ (m : ℕ). m < n) ms
+all_below [] n p h = tt
+all_below (x ∷ xs) n p h =
+    let e : is_above_last (Some (final x xs)) n ≡ true = subst (λ (o : Option ℕ). is_above_last o n ≡ true) (last_is x xs) h in
+    above_each (λ (y : ℕ). y) (λ (y : ℕ). y) n x xs (self_fits (x ∷ xs)) p (ltb-true (final x xs) n e)
+
+abbrev pub Ascend : ℕ → ℕ → Type 0
+Ascend m n = m < n
+
+abbrev pub Any : ℕ → Type 0
+Any n = Unit {0}
+
+pub above_keeps : (before path : List ℕ) (d : Data) (n : ℕ) → AreKept Any Ascend before → above before path d ≡ Ok n → AreKept Any Ascend (before ++ n ∷ [])
+unfolding above
+above_keeps before path d n kept h =
+    let m = bound (due (BadField path) (number d)) _ n h in
+    let t = must_holds (BadField path) (is_above before m.0) m.0 n m.2 in
+    one_more Any Ascend before n kept tt (subst (λ (k : ℕ). Each (λ (x : ℕ). x < k) before) t.1 (all_below before m.0 kept.1 t.0))
+
+next_keeps : (these before path : List ℕ) (d : Data) (n : ℕ) → AreKept (λ n. Member n these) Ascend before → next_among these before path d ≡ Ok n → AreKept (λ n. Member n these) Ascend (before ++ n ∷ [])
+unfolding next_among
+next_keeps these before path d n kept h =
+    let m = bound (number_among these path d) _ n h in
+    let t = must_holds (BadField path) (is_above before m.0) m.0 n m.2 in
+    one_more (λ n. Member n these) Ascend before n kept (subst (λ (k : ℕ). Member k these) t.1 (among_keeps these path d m.0 m.1))
+    (subst (λ (k : ℕ). Each (λ (x : ℕ). x < k) before) t.1 (all_below before m.0 kept.1 t.0))
+
+are_among : (these path : List ℕ) (ds : List Data) (ns : List ℕ) → entries_after (next_among these) path [] ds ≡ Ok ns → AreAmong these ns
+are_among these path ds ns h =
+    let k = entries_keep (AreKept (λ n. Member n these) Ascend) (next_among these) path (next_keeps these) [] ds ns (tt, tt) h in
+    record { known = k.0; ascending = k.1 }
+
+pub record AreSome (these ns : List ℕ) : Type 0 where
+  pub among : AreAmong these ns
+  pub some : 1 ≤ length ns
+
+pub record AreWithOne (these ns : List ℕ) : Type 0 where
+  pub among : AreAmong these ns
+  pub one : Member 1 ns
+
+has_one : (ns : List ℕ) → list_any (λ n. n == 1) ns ≡ true → Member 1 ns
+has_one [] h = absurd cc
+has_one (n ∷ ns) h = grind (arith, common_steps, has_one ns, eqb-true n 1)
+
+some_keep : (these path : List ℕ) (d : Data) (ns : List ℕ) → some_among these path d ≡ Ok ns → AreSome these ns
+unfolding some_among
+some_keep these path d ns h =
+    let ds = bound (due (BadField path) (entries d)) _ ns h in
+    let es = bound (entries_after (next_among these) path [] ds.0) _ ns ds.2 in
+    let m = must_holds (BadField path) (nat_lt 0 (length es.0)) es.0 ns es.2 in
+    let l = ltb-true 0 (length es.0) m.0 in
+    let fine : AreSome these es.0 = record { among = are_among these path ds.0 es.0 es.1; some = omega (arith, l) } in
+    subst (AreSome these) m.1 fine
+
+one_keep : (these path : List ℕ) (d : Data) (ns : List ℕ) → one_among these path d ≡ Ok ns → AreWithOne these ns
+unfolding one_among
+one_keep these path d ns h =
+    let ds = bound (due (BadField path) (entries d)) _ ns h in
+    let es = bound (entries_after (next_among these) path [] ds.0) _ ns ds.2 in
+    let m = must_holds (BadField path) (list_any (λ n. n == 1) es.0) es.0 ns es.2 in
+    let fine : AreWithOne these es.0 = record { among = are_among these path ds.0 es.0 es.1; one = has_one es.0 m.0 } in
+    subst (AreWithOne these) m.1 fine
+
+-- ---- the clock's domains
+
+pub nested_keeps : {X : Type 0} (P : X → Type 0) (form : List ℕ → Data → Result X TableFault) (group key : List ℕ) (d : Data) (x : X) → ((path : List ℕ) (v : Data) → form path v ≡ Ok x → P x) → nested form group key d ≡ Ok x → P x
+nested_keeps P form group key d x keeps h = need_keeps P form (below (below [] group) key) (inside group key d) x (λ v e. keeps (below (below [] group) key) v e) h
+
+range_keeps : (low high : ℕ) (group key : List ℕ) (d : Data) (p : ℕ × ℕ) → nested (pair_within low high) group key d ≡ Ok p → IsRange low high p
+range_keeps low high group key d p h = nested_keeps (IsRange low high) (pair_within low high) group key d p (λ path v e. pair_keeps low high path v p e) h
+
+dividers_keep : (these key : List ℕ) (d : Data) (ns : List ℕ) → nested (one_among these) (codes "clock") key d ≡ Ok ns → AreWithOne these ns
+dividers_keep these key d ns h = nested_keeps (AreWithOne these) (one_among these) (codes "clock") key d ns (λ path v e. one_keep these path v ns e) h
+
+pub clock_keeps : (d : Data) (c : Domains) → clock d ≡ Ok c → AreDomains c
+unfolding clock
+clock_keeps d c h =
+    let m = bound (nested (pair_within 2 63) (codes "clock") (codes "m") d) _ c h in
+    let n = bound (nested (pair_within 50 432) (codes "clock") (codes "n") d) _ c m.2 in
+    let q = bound (nested (pair_within 2 15) (codes "clock") (codes "q") d) _ c n.2 in
+    let p = bound (nested (some_among pll_dividers) (codes "clock") (codes "p") d) _ c q.2 in
+    let a = bound (nested (one_among ahb_dividers) (codes "clock") (codes "hpre") d) _ c p.2 in
+    let b = bound (nested (one_among apb_dividers) (codes "clock") (codes "ppre1") d) _ c a.2 in
+    let e = bound (nested (one_among apb_dividers) (codes "clock") (codes "ppre2") d) _ c b.2 in
+    let v = bound (nested (one_among known_scales) (codes "clock") (codes "vos") d) _ c e.2 in
+    let ps = nested_keeps (AreSome pll_dividers) (some_among pll_dividers) (codes "clock") (codes "p") d p.0 (λ path w k. some_keep pll_dividers path w p.0 k) p.1 in
+    let hs = dividers_keep ahb_dividers (codes "hpre") d a.0 a.1 in
+    let bs = dividers_keep apb_dividers (codes "ppre1") d b.0 b.1 in
+    let es = dividers_keep apb_dividers (codes "ppre2") d e.0 e.1 in
+    let vs = dividers_keep known_scales (codes "vos") d v.0 v.1 in
+    let fine : AreDomains (record { hpre = a.0; p = p.0; m = m.0; n = n.0; q = q.0; ppre1 = b.0; ppre2 = e.0; vos = v.0 }) = record {
+      m = range_keeps 2 63 (codes "clock") (codes "m") d m.0 m.1;
+      n = range_keeps 50 432 (codes "clock") (codes "n") d n.0 n.1;
+      q = range_keeps 2 15 (codes "clock") (codes "q") d q.0 q.1;
+      p = ps.among;
+      p_some = ps.some;
+      hpre = hs.among;
+      hpre_one = hs.one;
+      ppre1 = bs.among;
+      ppre1_one = bs.one;
+      ppre2 = es.among;
+      ppre2_one = es.one;
+      vos = vs.among;
+      vos_one = vs.one;
+    } in
+    subst AreDomains (same_ok (record { hpre = a.0; p = p.0; m = m.0; n = n.0; q = q.0; ppre1 = b.0; ppre2 = e.0; vos = v.0 }) c v.2) fine
+
+-- ---- the limits
+
+pub record AreRead (b : Bounds) : Type 0 where
+  pub crystal : IsRange 4000000 26000000 b.crystal
+  pub bypass : IsRange 1000000 50000000 b.bypass
+  pub vco_in : IsRange 1000000 2000000 b.vco_in
+  pub vco : IsRange 100000000 432000000 b.vco
+  pub sysclk : b.sysclk ≤ 168000000
+  pub pclk1 : b.pclk1 ≤ 42000000
+  pub pclk2 : b.pclk2 ≤ 84000000
+
+most_keeps : (low high : ℕ) (group key : List ℕ) (d : Data) (n : ℕ) → nested (number_within low high) group key d ≡ Ok n → n ≤ high
+most_keeps low high group key d n h = nested_keeps (λ (k : ℕ). k ≤ high) (number_within low high) group key d n (λ path v e. (number_keeps low high path v n e).1) h
+
+pub limits_keep : (d : Data) (b : Bounds) → limits d ≡ Ok b → AreRead b
+unfolding limits
+limits_keep d b h =
+    let c = bound (nested (pair_within 4000000 26000000) (codes "limits") (codes "crystal") d) _ b h in
+    let y = bound (nested (pair_within 1000000 50000000) (codes "limits") (codes "bypass") d) _ b c.2 in
+    let i = bound (nested (pair_within 1000000 2000000) (codes "limits") (codes "vco_in") d) _ b y.2 in
+    let v = bound (nested (pair_within 100000000 432000000) (codes "limits") (codes "vco") d) _ b i.2 in
+    let s = bound (nested (number_within 1 168000000) (codes "limits") (codes "sysclk") d) _ b v.2 in
+    let p = bound (nested (number_within 1 42000000) (codes "limits") (codes "pclk1") d) _ b s.2 in
+    let q = bound (nested (number_within 1 84000000) (codes "limits") (codes "pclk2") d) _ b p.2 in
+    let fine : AreRead (record { crystal = c.0; bypass = y.0; vco_in = i.0; vco = v.0; sysclk = s.0; pclk1 = p.0; pclk2 = q.0 }) = record {
+      crystal = range_keeps 4000000 26000000 (codes "limits") (codes "crystal") d c.0 c.1;
+      bypass = range_keeps 1000000 50000000 (codes "limits") (codes "bypass") d y.0 y.1;
+      vco_in = range_keeps 1000000 2000000 (codes "limits") (codes "vco_in") d i.0 i.1;
+      vco = range_keeps 100000000 432000000 (codes "limits") (codes "vco") d v.0 v.1;
+      sysclk = most_keeps 1 168000000 (codes "limits") (codes "sysclk") d s.0 s.1;
+      pclk1 = most_keeps 1 42000000 (codes "limits") (codes "pclk1") d p.0 p.1;
+      pclk2 = most_keeps 1 84000000 (codes "limits") (codes "pclk2") d q.0 q.1;
+    } in
+    subst AreRead (same_ok (record { crystal = c.0; bypass = y.0; vco_in = i.0; vco = v.0; sysclk = s.0; pclk1 = p.0; pclk2 = q.0 }) b q.2) fine

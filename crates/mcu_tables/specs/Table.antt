@@ -1,0 +1,461 @@
+-- The table that bytes say: each path of the form in its order, or the first fault.
+use Rattle.std.specs.Prelude.{◌≡◌, ℕ, ◌==◌, ◌-◌, ◌+◌, ◌^◌, ◌&&◌, ◌||◌, List, [], ◌∷◌, ◌++◌, length, map, Bool, true, false, not, nat_lt, nat_le, if◌then◌else◌, Option, Some, None, option_and_then, Result, Ok, Err, position, find, codes, decimal, slice_index, slice_get, option_map, ⊤}
+use Rattle.std.specs.List.{list_any}
+use Rattle.std.specs.Str.{bytes_eq}
+use Rattle.res_model.specs.Steps.{◌>>=◌}
+use Rattle.res_model.specs.ClockValues.{ahb_dividers, apb_dividers, pll_dividers, known_scales, hsi}
+use Rattle.res_model.specs.PinNames.{spot, place}
+use Rattle.mcu_tables.specs.Json.{json_of, is_object, inside, entries, two, number, word}
+use Rattle.mcu_tables.specs.declared.fault.TableFault.{TableFault}
+use Rattle.mcu_tables.specs.declared.fault.TableFault.TheVariants.{NotJson, Missing, BadField, Repeated, ResetIllegal}
+use Rattle.res_model.specs.declared.table.Pin.{Pin}
+use Rattle.res_model.specs.declared.table.Role.{Role}
+use Rattle.res_model.specs.declared.table.Role.TheVariants as role
+use Rattle.res_model.specs.declared.table.Mode.{Mode}
+use Rattle.res_model.specs.declared.table.Mode.TheVariants as mode
+use Rattle.res_model.specs.declared.table.PinUse.{PinUse}
+use Rattle.res_model.specs.declared.table.TableSignal.{TableSignal}
+use Rattle.res_model.specs.declared.table.Need48.{Need48}
+use Rattle.res_model.specs.declared.table.Need48.TheVariants.{Nothing, Exact, Most}
+use Rattle.res_model.specs.declared.table.Ip.{Ip}
+use Rattle.res_model.specs.declared.table.Domains.{Domains}
+use Rattle.res_model.specs.declared.table.Bounds.{Bounds}
+use Rattle.res_model.specs.declared.table.Scale.{Scale}
+use Rattle.res_model.specs.declared.table.FlashRange.{FlashRange}
+use Rattle.res_model.specs.declared.table.TableParts.{TableParts}
+use Rattle.serde_json.specs.Data.{Data}
+use Rattle.serde_json.specs.Find.{get, as_str, as_bool}
+
+-- what is read of a value at a path, or its fault; and of an entry, after those before it
+abbrev pub Form : Type 0 → Type 0
+Form X = List ℕ → Data → Result X TableFault
+
+abbrev pub EntryForm : Type 0 → Type 0
+EntryForm X = List X → Form X
+
+-- ---- paths and faults
+
+-- the path of a part below a path, as in `/clock/hpre/0`
+abbrev pub below : List ℕ → List ℕ → List ℕ
+below path part = path ++ 47 ∷ part
+
+-- what is there, or else the fault
+abbrev pub due : {X : Type 0} → TableFault → Option X → Result X TableFault
+due fault None = Err fault
+due fault (Some x) = Ok x
+
+-- x, where the test holds
+abbrev pub must : {X : Type 0} → TableFault → Bool → X → Result X TableFault
+must fault holds x = if holds then Ok x else Err fault
+
+-- ---- members
+
+-- a member that has to be there
+abbrev pub need : {X : Type 0} → Form X → List ℕ → Option Data → Result X TableFault
+need form path found = do
+  d ← due (Missing path) found
+  form path d
+
+-- a member that may be absent; null is not absent
+abbrev pub may : {X : Type 0} → Form X → X → List ℕ → Option Data → Result X TableFault
+may form absent path None = Ok absent
+may form absent path (Some d) = form path d
+
+-- the member of the object at this path
+abbrev pub member : {X : Type 0} → Form X → List ℕ → List ℕ → Data → Result X TableFault
+member form path key d = need form (below path key) (get key d)
+
+abbrev pub optional : {X : Type 0} → Form X → X → List ℕ → List ℕ → Data → Result X TableFault
+optional form absent path key d = may form absent (below path key) (get key d)
+
+-- a member of the table
+abbrev pub top : {X : Type 0} → Form X → List ℕ → Data → Result X TableFault
+top form key d = member form [] key d
+
+-- a member of a member of the table, which is missing too where the outer one is absent or no object
+abbrev pub nested : {X : Type 0} → Form X → List ℕ → List ℕ → Data → Result X TableFault
+nested form group key d = need form (below (below [] group) key) (inside group key d)
+
+-- ---- forms of a member
+
+unfoldable pub text : Form (List ℕ)
+text path d = due (BadField path) (word d)
+
+unfoldable pub flag : Form Bool
+flag path d = due (BadField path) (as_bool d)
+
+unfoldable pub object : Form Data
+object path d = must (BadField path) (is_object d) d
+
+-- an object, where it is there
+unfoldable pub object_if_there : List ℕ → Option Data → Result ⊤ TableFault
+object_if_there path None = Ok tt
+object_if_there path (Some d) = must (BadField path) (is_object d) tt
+
+unfoldable pub number_within : ℕ → ℕ → Form ℕ
+number_within low high path d = do
+  n ← due (BadField path) (number d)
+  must (BadField path) (nat_le low n && nat_le n high) n
+
+-- one of these numbers
+unfoldable pub number_among : List ℕ → Form ℕ
+number_among these path d = do
+  n ← due (BadField path) (number d)
+  due (BadField path) (find (λ x. x == n) these)
+
+-- a least and a greatest number within a range
+unfoldable pub pair_within : ℕ → ℕ → Form (ℕ × ℕ)
+pair_within low high path d = do
+  ds ← due (BadField path) (two d)
+  m ← due (BadField path) (number ds.0)
+  n ← due (BadField path) (number ds.1)
+  must (BadField path) (nat_le low m && nat_le m n && nat_le n high) (m, n)
+
+-- the entries, each judged after those before it
+abbrev pub entries_after : {X : Type 0} → EntryForm X → List ℕ → List X → List Data → Result (List X) TableFault
+entries_after entry path before [] = Ok before
+entries_after entry path before (d ∷ ds) = do
+  x ← entry before (below path (decimal (length before))) d
+  entries_after entry path (before ++ x ∷ []) ds
+
+-- so many entries at least and at most
+unfoldable pub counted : ℕ → ℕ → Form (List Data)
+counted least most path d = do
+  ds ← due (BadField path) (entries d)
+  must (BadField path) (nat_le least (length ds) && nat_le (length ds) most) ds
+
+-- a list of so many entries
+unfoldable pub list : {X : Type 0} → ℕ → ℕ → EntryForm X → Form (List X)
+list least most entry path d = do
+  ds ← counted least most path d
+  entries_after entry path [] ds
+
+-- ---- entries of lists
+
+-- x, where no entry before equals it
+abbrev pub fresh : {X : Type 0} → List ℕ → Bool → X → Result X TableFault
+fresh path repeated x = if repeated then Err (Repeated path) else Ok x
+
+unfoldable pub any_text : EntryForm (List ℕ)
+any_text before path d = text path d
+
+unfoldable pub distinct_text : EntryForm (List ℕ)
+distinct_text before path d = do
+  name ← text path d
+  fresh path (list_any (λ x. bytes_eq x name) before) name
+
+-- n is above the last, where there is one
+abbrev pub is_above_last : Option ℕ → ℕ → Bool
+is_above_last None n = true
+is_above_last (Some m) n = nat_lt m n
+
+abbrev pub is_above : List ℕ → ℕ → Bool
+is_above before n = is_above_last (slice_get before (length before - 1)) n
+
+unfoldable pub above : EntryForm ℕ
+above before path d = do
+  n ← due (BadField path) (number d)
+  must (BadField path) (is_above before n) n
+
+-- the next of an ascending list within these numbers
+unfoldable pub next_among : List ℕ → EntryForm ℕ
+next_among these before path d = do
+  n ← number_among these path d
+  must (BadField path) (is_above before n) n
+
+-- an ascending list within these numbers, with at least one
+unfoldable pub some_among : List ℕ → Form (List ℕ)
+some_among these path d = do
+  ds ← due (BadField path) (entries d)
+  ns ← entries_after (next_among these) path [] ds
+  must (BadField path) (nat_lt 0 (length ns)) ns
+
+-- an ascending list within these numbers, with 1 in it
+unfoldable pub one_among : List ℕ → Form (List ℕ)
+one_among these path d = do
+  ds ← due (BadField path) (entries d)
+  ns ← entries_after (next_among these) path [] ds
+  must (BadField path) (list_any (λ n. n == 1) ns) ns
+
+-- ---- pins
+
+-- two pins of one name, or of one port and number, are equal entries
+abbrev pub is_same_pin : List ℕ → ℕ × ℕ → Pin → Bool
+is_same_pin name place p = bytes_eq p.name name || (p.port == place.0 && p.number == place.1)
+
+unfoldable pub pin : EntryForm Pin
+pin before path d = do
+  name ← text path d
+  place ← due (BadField path) (spot name)
+  fresh path (list_any (is_same_pin name place) before) (record { name = name; port = place.0; number = place.1 })
+
+-- ---- signals
+
+unfoldable pub role_of : List ℕ → Option Role
+role_of w =
+    if bytes_eq w (codes "alt") then Some role.Alt else
+    (if bytes_eq w (codes "input") then Some role.Input else
+    (if bytes_eq w (codes "output") then Some role.Output else
+    (if bytes_eq w (codes "analog") then Some role.Analog else
+    (if bytes_eq w (codes "exti") then Some role.Exti else
+    (if bytes_eq w (codes "osc") then Some role.Osc else None)))))
+
+unfoldable pub use_form : Form Role
+use_form path d = due (BadField path) (option_and_then role_of (as_str d))
+
+-- a pin's name, as its place
+unfoldable pub pin_named : List Pin → Data → Option ℕ
+pin_named pins d = option_and_then (place pins) (word d)
+
+-- a row of a pin, where no row before has the pin
+abbrev pub row : List PinUse → List ℕ → Option ℕ → Mode → Result PinUse TableFault
+row before path named m = do
+  p ← due (BadField path) named
+  fresh path (list_any (λ u. u.pin == p) before) (record { pin = p; mode = m })
+
+-- a row of a pin's name and a number 0 to 15
+unfoldable pub alt_row : List Pin → EntryForm PinUse
+alt_row pins before path d = do
+  ds ← due (BadField path) (two d)
+  p ← due (BadField path) (pin_named pins ds.0)
+  n ← number_within 0 15 path ds.1
+  row before path (Some p) (mode.Alt n)
+
+-- a row of a pin's name alone
+unfoldable pub pin_row : List Pin → Mode → EntryForm PinUse
+pin_row pins m before path d = row before path (pin_named pins d) m
+
+-- the member must not be there
+unfoldable pub no_rows : Form (List PinUse)
+no_rows path d = Err (BadField path)
+
+unfoldable pub rows : List Pin → Role → Form (List PinUse)
+rows pins role.Alt path d = member (list 1 16 (alt_row pins)) path (codes "at") d
+rows pins role.Osc path d = member (list 1 16 (pin_row pins mode.Osc)) path (codes "at") d
+rows pins role.Analog path d = optional (list 0 16 (pin_row pins mode.Analog)) [] path (codes "at") d
+rows pins role.Input path d = optional no_rows [] path (codes "at") d
+rows pins role.Output path d = optional no_rows [] path (codes "at") d
+rows pins role.Exti path d = optional no_rows [] path (codes "at") d
+
+-- a text that is not `-`
+unfoldable pub real_name : Form (List ℕ)
+real_name path d = do
+  name ← text path d
+  must (BadField path) (not (bytes_eq name (codes "-"))) name
+
+-- a name that no signal before has
+unfoldable pub signal_name : List TableSignal → Form (List ℕ)
+signal_name before path d = do
+  name ← real_name path d
+  fresh path (list_any (λ s. bytes_eq s.name name) before) name
+
+unfoldable pub some_text : Form (Option (List ℕ))
+some_text path d = do
+  w ← text path d
+  Ok (Some w)
+
+unfoldable pub signal : List Pin → EntryForm TableSignal
+signal pins before path d = do
+  o ← object path d
+  name ← member (signal_name before) path (codes "name") o
+  kind ← member use_form path (codes "use") o
+  ip ← optional some_text None path (codes "ip") o
+  drain ← optional flag false path (codes "drain") o
+  at ← rows pins kind path o
+  Ok (record { name = name; role = kind; ip = ip; drain = drain; at = at })
+
+-- ---- IPs
+
+unfoldable pub need48_of : List ℕ → Option Need48
+need48_of w =
+    if bytes_eq w (codes "none") then Some Nothing else
+    (if bytes_eq w (codes "exact") then Some Exact else
+    (if bytes_eq w (codes "most") then Some Most else None))
+
+unfoldable pub clock48_form : Form Need48
+clock48_form path d = due (BadField path) (option_and_then need48_of (as_str d))
+
+unfoldable pub ip_name : List Ip → Form (List ℕ)
+ip_name before path d = do
+  name ← text path d
+  fresh path (list_any (λ i. bytes_eq i.name name) before) name
+
+unfoldable pub ip : EntryForm Ip
+ip before path d = do
+  o ← object path d
+  name ← member (ip_name before) path (codes "name") o
+  clock48 ← member clock48_form path (codes "clock48") o
+  floor ← optional (number_within 0 168000000) 0 path (codes "floor") o
+  marks ← optional (list 0 16 any_text) [] path (codes "marks") o
+  Ok (record { name = name; clock48 = clock48; floor = floor; marks = marks })
+
+-- ---- clocks and limits
+
+unfoldable pub clock : Data → Result Domains TableFault
+clock d = do
+  m ← nested (pair_within 2 63) (codes "clock") (codes "m") d
+  n ← nested (pair_within 50 432) (codes "clock") (codes "n") d
+  q ← nested (pair_within 2 15) (codes "clock") (codes "q") d
+  p ← nested (some_among pll_dividers) (codes "clock") (codes "p") d
+  hpre ← nested (one_among ahb_dividers) (codes "clock") (codes "hpre") d
+  ppre1 ← nested (one_among apb_dividers) (codes "clock") (codes "ppre1") d
+  ppre2 ← nested (one_among apb_dividers) (codes "clock") (codes "ppre2") d
+  vos ← nested (one_among known_scales) (codes "clock") (codes "vos") d
+  Ok (record { hpre = hpre; p = p; m = m; n = n; q = q; ppre1 = ppre1; ppre2 = ppre2; vos = vos })
+
+unfoldable pub limits : Data → Result Bounds TableFault
+limits d = do
+  crystal ← nested (pair_within 4000000 26000000) (codes "limits") (codes "crystal") d
+  bypass ← nested (pair_within 1000000 50000000) (codes "limits") (codes "bypass") d
+  vco_in ← nested (pair_within 1000000 2000000) (codes "limits") (codes "vco_in") d
+  vco ← nested (pair_within 100000000 432000000) (codes "limits") (codes "vco") d
+  sysclk ← nested (number_within 1 168000000) (codes "limits") (codes "sysclk") d
+  pclk1 ← nested (number_within 1 42000000) (codes "limits") (codes "pclk1") d
+  pclk2 ← nested (number_within 1 84000000) (codes "limits") (codes "pclk2") d
+  Ok (record { crystal = crystal; bypass = bypass; vco_in = vco_in; vco = vco; sysclk = sysclk; pclk1 = pclk1; pclk2 = pclk2 })
+
+-- ---- scales
+
+-- the scale that is due, and its greatest HCLK
+unfoldable pub scale : List ℕ → EntryForm Scale
+scale vos before path d = do
+  o ← object path d
+  number ← member (number_within (slice_index vos (length before)) (slice_index vos (length before))) path (codes "vos") o
+  max ← member (number_within 1 168000000) path (codes "max") o
+  Ok (record { vos = number; max = max })
+
+-- one for each scale of the clock's list, in its order
+abbrev pub scales : List ℕ → Form (List Scale)
+scales vos path d = list (length vos) (length vos) (scale vos) path d
+
+-- ---- flash
+
+-- n is above the end of the range before
+abbrev pub is_after : List FlashRange → ℕ → Bool
+is_after before n = is_above_last (option_map (λ r. r.to) (slice_get before (length before - 1))) n
+
+unfoldable pub flash_from : List FlashRange → Form ℕ
+flash_from before path d = do
+  n ← due (BadField path) (number d)
+  must (BadField path) (is_after before n) n
+
+unfoldable pub flash_to : ℕ → Form ℕ
+flash_to from path d = do
+  n ← due (BadField path) (number d)
+  must (BadField path) (nat_le from n) n
+
+unfoldable pub flash_range : EntryForm FlashRange
+flash_range before path d = do
+  o ← object path d
+  from ← member (flash_from before) path (codes "from") o
+  to ← member (flash_to from) path (codes "to") o
+  prefetch ← member flag path (codes "prefetch") o
+  rows ← member (list 1 8 above) path (codes "rows") o
+  Ok (record { from = from; to = to; prefetch = prefetch; rows = rows })
+
+-- ---- defaults
+
+-- HSI is 0, HSE 1 and PLL 2
+unfoldable pub source_of : List ℕ → Option ℕ
+source_of w =
+    if bytes_eq w (codes "HSI") then Some 0 else
+    (if bytes_eq w (codes "HSE") then Some 1 else
+    (if bytes_eq w (codes "PLL") then Some 2 else None))
+
+unfoldable pub pll_source_of : List ℕ → Option ℕ
+pll_source_of w = if bytes_eq w (codes "HSI") then Some 0 else (if bytes_eq w (codes "HSE") then Some 1 else None)
+
+unfoldable pub source_form : Form ℕ
+source_form path d = due (BadField path) (option_and_then source_of (as_str d))
+
+unfoldable pub pll_source_form : Form ℕ
+pll_source_form path d = due (BadField path) (option_and_then pll_source_of (as_str d))
+
+-- src and psrc
+unfoldable pub default_sources : Data → Result (ℕ × ℕ) TableFault
+default_sources d = do
+  src ← nested source_form (codes "defaults") (codes "src") d
+  psrc ← nested pll_source_form (codes "defaults") (codes "psrc") d
+  Ok (src, psrc)
+
+-- hpre, p, m, n and q, each in its domain
+unfoldable pub default_factors : Domains → Data → Result (ℕ × ℕ × ℕ × ℕ × ℕ) TableFault
+default_factors c d = do
+  hpre ← nested (number_among c.hpre) (codes "defaults") (codes "hpre") d
+  p ← nested (number_among c.p) (codes "defaults") (codes "p") d
+  m ← nested (number_within c.m.0 c.m.1) (codes "defaults") (codes "m") d
+  n ← nested (number_within c.n.0 c.n.1) (codes "defaults") (codes "n") d
+  q ← nested (number_within c.q.0 c.q.1) (codes "defaults") (codes "q") d
+  Ok (hpre, p, m, n, q)
+
+-- ppre1, ppre2 and vos, each in its domain
+unfoldable pub default_buses : Domains → Data → Result (ℕ × ℕ × ℕ) TableFault
+default_buses c d = do
+  ppre1 ← nested (number_among c.ppre1) (codes "defaults") (codes "ppre1") d
+  ppre2 ← nested (number_among c.ppre2) (codes "defaults") (codes "ppre2") d
+  vos ← nested (number_among c.vos) (codes "defaults") (codes "vos") d
+  Ok (ppre1, ppre2, vos)
+
+-- the defaults of the clock variables in their order, and the HSE value in hertz
+unfoldable pub defaults : Domains → Data → Result (List ℕ × ℕ) TableFault
+defaults c d = do
+  there ← object_if_there (below [] (codes "defaults")) (get (codes "defaults") d)
+  s ← default_sources d
+  f ← default_factors c d
+  b ← default_buses c d
+  hse ← nested (number_within 0 4294967295) (codes "defaults") (codes "hse") d
+  Ok (s.0 ∷ s.1 ∷ f.0 ∷ f.1 ∷ f.2 ∷ f.3 ∷ f.4 ∷ b.0 ∷ b.1 ∷ b.2 ∷ [], hse)
+
+-- ---- the state after reset
+
+-- the least limit that the state after reset would break
+unfoldable pub reset_fault : TableParts → Option ℕ
+reset_fault t =
+    if nat_lt t.limits.sysclk hsi then Some 6 else
+    (if list_any (λ s. nat_lt s.max hsi) t.scales then Some 7 else
+    (if nat_lt t.limits.pclk1 hsi then Some 8 else
+    (if nat_lt t.limits.pclk2 hsi then Some 9 else
+    (if list_any (λ r. nat_lt (slice_index r.rows 0) hsi) t.flash then Some 13 else None))))
+
+abbrev pub unless_illegal : Option ℕ → TableParts → Result TableParts TableFault
+unless_illegal None t = Ok t
+unless_illegal (Some limit) t = Err (ResetIllegal limit)
+
+unfoldable pub legal : TableParts → Result TableParts TableFault
+legal t = unless_illegal (reset_fault t) t
+
+-- ---- the whole
+
+-- the names of the signals of the oscillator's pins
+unfoldable pub hse_names : Data → Result (List ℕ × List ℕ) TableFault
+hse_names d = do
+  hse_in ← top text (codes "hse_in") d
+  hse_out ← top text (codes "hse_out") d
+  Ok (hse_in, hse_out)
+
+-- what the supply allows: the scales of the clock's list, and the flash ranges
+unfoldable pub supply : List ℕ → Data → Result (List Scale × List FlashRange) TableFault
+supply vos d = do
+  ss ← top (scales vos) (codes "scales") d
+  rs ← top (list 0 16 flash_range) (codes "flash") d
+  Ok (ss, rs)
+
+unfoldable pub table : Data → Result TableParts TableFault
+table d = do
+  version ← top (number_within 1 1) (codes "version") d
+  names ← top (list 1 64 distinct_text) (codes "names") d
+  parcel ← top text (codes "package") d
+  pins ← top (list 0 144 pin) (codes "pins") d
+  signals ← top (list 0 2000 (signal pins)) (codes "signals") d
+  hse ← hse_names d
+  ips ← top (list 0 64 ip) (codes "ips") d
+  clock ← clock d
+  limits ← limits d
+  power ← supply clock.vos d
+  values ← defaults clock d
+  legal (record { names = names; «package» = parcel; pins = pins; signals = signals; hse_in = hse.0; hse_out = hse.1; ips = ips; clock = clock; limits = limits; scales = power.0; flash = power.1; defaults = values.0; hse_hz = values.1 })
+
+unfoldable pub tables_of : List ℕ → Result TableParts TableFault
+tables_of bytes = do
+  d ← due NotJson (json_of bytes)
+  table d

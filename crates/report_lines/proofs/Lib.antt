@@ -1,0 +1,3 @@
+pub mod CLemmas
+pub mod LineLemmas
+pub mod ReportLemmas

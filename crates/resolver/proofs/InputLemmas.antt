@@ -1,0 +1,85 @@
+-- What is owed for inputs, from what is owed for their bytes.
+use Rattle.std.proofs.Common.{◌≡◌, ◌≢◌, ◌∙◌, inl, ℕ, zero, suc, ◌+◌, ◌<◌, ◌≤◌, List, [], ◌∷◌, ◌++◌, length, map, Bool, true, false, Option, Some, None, Result, Ok, Err, ap, refl, sym, subst, arith, get_or}
+use Rattle.std.specs.Prelude.{IfOk, MatchBool, MatchOption, codes, nat_lt, slice_index_or, if◌then◌else◌}
+use Rattle.std.proofs.lemmas.Bool.Decides.{nat_tests}
+use Rattle.answers.specs.Said.{Says, answered}
+use Rattle.answers.specs.declared.answer.Answer.{Answer}
+use Rattle.answers.specs.declared.answer.Status.{Status}
+use Rattle.answers.specs.declared.answer.Status.TheVariants.{NotBuilt, OutOfMemory, TooLong, Usage}
+use Rattle.call_io.proofs.ServedLemmas.{answered_for}
+use Rattle.call_io.specs.Gathered.{AllRead, AreSeen, IsOfBytes, IsRead}
+use Rattle.call_io.specs.Inputs.{Files, Input, Reads, Wrote, first_long}
+use Rattle.call_io.specs.Ran.{IsWritten, Served}
+use Rattle.cmd_words.specs.Asked.{workers_asked}
+use Rattle.cmd_words.specs.UsageFaults.{Refuses}
+use Rattle.cmd_words.specs.declared.command.Command.{Command}
+use Rattle.cmd_words.specs.declared.fault.UsageFault.{UsageFault}
+use Rattle.cmd_words.specs.declared.fault.UsageFault.TheVariants as words
+use Rattle.res_base.specs.Lists.{Each}
+use Rattle.resolver.specs.Due.{Due, OfBytes, OfCommand, OfInputs, input_at, names_of, waits}
+use Rattle.resolver.specs.Opening.{AreInputs}
+use Rattle.resolver.specs.Refusals.{words_refusal}
+
+-- one worker is served
+alone : (n : ℕ) → n ≤ 1 → nat_lt 1 n ≡ false
+alone n l = grind (arith, nat_tests, l)
+
+served_alone : (c : Command) (inputs : List Input) (a : Answer) → workers_asked c ≤ 1 → OfInputs c inputs a → OfCommand c inputs a
+served_alone c inputs a l due = subst (λ (b : Bool). MatchBool b (Says a NotBuilt (codes "not built: workers")) (OfInputs c inputs a)) (sym (alone (workers_asked c) l)) due
+
+-- inputs that were read
+pub read_whole : (c : Command) (read : List (List ℕ)) (a : Answer) → workers_asked c ≤ 1 → OfBytes c read a → (inputs : List Input) → AreSeen read inputs → OfCommand c inputs a
+read_whole c read a l due inputs seen =
+    served_alone c inputs a l
+    (subst (λ (o : Option (List ℕ)). MatchOption o (OfBytes c (map (λ (i : Input). i.bytes) inputs) a) (λ name. Says a TooLong (codes "too long: " ++ name))) (sym seen.none_long)
+    (subst (λ (bytes : List (List ℕ)). OfBytes c bytes a) (sym seen.bytes) due))
+
+-- an input that is too long
+pub too_long : (c : Command) (a : Answer) → workers_asked c ≤ 1 → (inputs : List Input) (name : List ℕ) → first_long inputs ≡ Some name → Says a TooLong (codes "too long: " ++ name) → OfCommand c inputs a
+too_long c a l inputs name first says =
+    served_alone c inputs a l
+    (subst (λ (o : Option (List ℕ)). MatchOption o (OfBytes c (map (λ (i : Input). i.bytes) inputs) a) (λ n. Says a TooLong (codes "too long: " ++ n))) (sym first) says)
+
+-- more than one worker is refused
+pub many : (c : Command) (inputs : List Input) (a : Answer) → 1 < workers_asked c → Says a NotBuilt (codes "not built: workers") → OfCommand c inputs a
+many c inputs a l says = subst (λ (b : Bool). MatchBool b (Says a NotBuilt (codes "not built: workers")) (OfInputs c inputs a)) (sym (more (workers_asked c) l)) says
+  where
+    more : (n : ℕ) → 1 < n → nat_lt 1 n ≡ true
+    more n k = grind (arith, nat_tests, k)
+
+-- the inputs that were read, as a command takes them
+pub as_inputs : (files : Files) (names read : List (List ℕ)) → AllRead files names read → AreInputs (length names) read
+as_inputs files [] [] h = record { count_is = refl; few = tt }
+as_inputs files [] (b ∷ bs) h = absurd h
+as_inputs files (n ∷ ns) [] h = absurd h
+as_inputs files (n ∷ ns) (b ∷ bs) h =
+    let more = as_inputs files ns bs h.1 in
+    record { count_is = ap suc more.count_is; few = (h.0.few, more.few) }
+
+-- an input at a place is not too long
+pub few_at : (files : List (List ℕ)) (k : ℕ) → Each (λ (bytes : List ℕ). length bytes ≤ 67108864) files → k < length files → length (slice_index_or files k []) ≤ 67108864
+few_at [] k h l = absurd (omega (arith, l))
+few_at (b ∷ bs) zero h l = h.0
+few_at (b ∷ bs) (suc k) h l = few_at bs k h.1 (omega (arith, l))
+
+-- two things that hold of an answer
+pub if_both : {X E : Type 0} (r : Result X E) (P Q R : X → Type 0) → IfOk r P → IfOk r Q → ((x : X) → P x → Q x → R x) → IfOk r R
+if_both (Ok x) P Q R p q f = f x p q
+if_both (Err e) P Q R p q f = tt
+
+usage : (a : Answer) (text : List ℕ) → a ≡ answered Usage text → IsOfBytes a.status
+usage a text e = subst IsOfBytes (sym (ap (λ (x : Answer). x.status) e)) (record { own = record { no_write_fault = λ q. absurd cc; no_memory = λ q. absurd cc }; no_read_fault = λ q. absurd cc; no_length = λ q. absurd cc })
+
+-- what is said of words that have no reading
+pub unread_words : (f : UsageFault) (asked : Result Command UsageFault) (r : Reads) (a : Answer) → Refuses f asked → f ≢ words.Memory → Says a Usage (words_refusal f) → Served (names_of asked) (Due asked) r r a
+unread_words words.Memory asked r a h differs says = absurd (differs refl)
+unread_words (words.Word number) asked r a h differs says =
+    subst (λ (q : Result Command UsageFault). Served (names_of q) (Due q) r r a) (sym h)
+    (answered_for [] (Due (Err (words.Word number))) r r [] a tt (inl refl) (usage a _ says) (λ inputs seen. says))
+
+-- words that have no reading are no command that waits
+pub no_waiting : {E : Type 0} (f : UsageFault) (asked : Result Command UsageFault) (r : Result Answer E) (out_before out_after : Wrote) (status : Status)
+    → Refuses f asked → IfOk r (λ a. (f ≢ words.Memory) × Says a Usage (words_refusal f)) → IsWritten r out_before out_after status → status ≢ OutOfMemory → waits asked ≡ false
+no_waiting (words.Word number) asked r ob oa status h said written differs = ap waits h
+no_waiting words.Memory asked (Ok a) ob oa status h said written differs = absurd (said.0 refl)
+no_waiting words.Memory asked (Err e) ob oa status h said written differs = absurd (differs written.0)

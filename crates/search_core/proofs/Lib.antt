@@ -1,0 +1,6 @@
+mod ChangeLemmas
+mod EndLemmas
+mod EntryLemmas
+mod RankLemmas
+mod FitLemmas
+mod RunLemmas

@@ -1,0 +1,4 @@
+pub mod Ends
+pub mod Events
+pub mod Fits
+pub mod Runs

@@ -1,0 +1,4 @@
+pub mod EndLemmas
+pub mod FlowActs
+mod LegalLemmas
+pub mod WalkActs

@@ -1,0 +1,4 @@
+pub mod Flows
+pub mod Jobs
+pub mod Walks
+pub mod Workers

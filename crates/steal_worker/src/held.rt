@@ -1,0 +1,62 @@
+//! The private end of a worker's deque. It takes no memory once it is made.
+ghost use Rattle.std.specs.Prelude.{◌≡◌, ◌<◌, ◌≤◌, List, [], ◌∷◌, ◌++◌, length, IfOk, MatchOption};
+ghost use Rattle.std.specs.Prelude.{vec_capacity};
+
+use res_base::OutOfMemory;
+use search_api::Place;
+use std::alloc::Global;
+
+/// Places that no other thread can reach, the last one next. It has room for as many as can be held at once.
+#[derive(Drop)]
+pub struct Held {
+    places: Vec<Place>,
+    ghost room: { 126 ≤ vec_capacity places },
+}
+
+impl Held {
+    ghost use Rattle.search_api.specs.declared.place.Place.{Place};
+    ghost use Rattle.steal_worker.specs.Walks.{held_places};
+
+    /// A private end that holds nothing.
+    pub fn new(alloc: Global) -> Result<Held, OutOfMemory>
+        ensures { IfOk result (λ held. held_places held ≡ []) }
+    {
+        match Vec::with_capacity(alloc, 126) {
+            Ok(places) => Ok(Held { places }),
+            Err(_) => Err(OutOfMemory),
+        }
+    }
+
+    /// Adds a place, which is the next one.
+    pub fn push(&mut self, place: Place)
+        requires { length (held_places self.old) < 126 }
+        ensures { held_places self.new ≡ held_places self.old ++ place ∷ [] }
+    {
+        self.places.push_reserved(place);
+    }
+
+    /// Takes the next place.
+    pub fn pop(&mut self) -> Option<Place>
+        ensures { MatchOption result ((held_places self.old ≡ []) × (held_places self.new ≡ [])) (λ place. held_places self.old ≡ held_places self.new ++ place ∷ []) }
+    {
+        self.places.pop()
+    }
+
+    /// The path of the first place, which would be the last one to be next.
+    pub fn first(&self) -> Option<u128>
+        ensures { MatchOption result (held_places self.now ≡ []) (λ path. (place : Place) × (rest : List Place) × (held_places self.now ≡ place ∷ rest) × (place.path ≡ path)) }
+    {
+        match self.places.first() {
+            Some(place) => Some(place.path),
+            None => None,
+        }
+    }
+
+    /// Lets the first place go.
+    pub fn drop_first(&mut self)
+        requires { 0 < length (held_places self.old) }
+        ensures { (place : Place) × (held_places self.old ≡ place ∷ held_places self.new) }
+    {
+        self.places.remove(0);
+    }
+}

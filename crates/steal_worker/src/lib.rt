@@ -1,0 +1,13 @@
+//! One worker of a search: it closes or splits boxes, and shares paths by its deque.
+#![tactic(auto)]
+
+mod ends;
+mod held;
+mod stop;
+mod walker;
+mod worker;
+
+pub use held::Held;
+pub use stop::Stop;
+pub use walker::{Walker, settle};
+pub use worker::{Job, place_for, work};

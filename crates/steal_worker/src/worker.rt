@@ -1,0 +1,161 @@
+//! One worker among others.
+ghost use Rattle.std.specs.Prelude.{◌≡◌, ℕ, ◌+◌, None, [], ◌∷◌, option_to_list, IfOk, IfNone, MatchOption};
+ghost use Rattle.res_base.specs.Lists.{Each, total};
+ghost use Rattle.best_word.specs.declared.part.Part.TheVariants.{First};
+ghost use Rattle.best_word.specs.Handles.{IsSeatOf, best_view, judge_of};
+ghost use Rattle.box_split.specs.Paths.{box_of};
+ghost use Rattle.path_deque.specs.Ends.{owner_tally, owner_deque};
+ghost use Rattle.search_api.specs.Places.{IsAt};
+ghost use Rattle.steal_worker.specs.Jobs.{stolen, IsThief, thief_deques, Works, IsSameJob, IsReady, IsDone};
+ghost use Rattle.steal_worker.specs.Walks.{held_places};
+
+use crate::ends::{place_of, share, steal_any};
+use crate::stop::Stop;
+use crate::walker::{Walker, settle};
+use best_word::BestWord;
+use crossbeam_utils::Backoff;
+use path_deque::{Owner, Thief};
+use res_base::OutOfMemory;
+use res_io::Gate;
+use search_api::{Judge, Place};
+use std::sync::Wait;
+
+/// A worker with its own deque and a thief's end of every deque.
+pub struct Job<J: Judge> {
+    pub walker: Walker<J>,
+    pub owner: Owner,
+    pub thieves: Vec<Thief>,
+}
+
+impl<J: Judge> Drop for Job<J> {
+    fn drop(self) {
+        let Self {
+            walker: _,
+            owner: _,
+            thieves: _,
+        } = self;
+    }
+}
+
+impl<J: Judge> Job<J> {
+    /// The worker, and its ends.
+    pub fn parts(self) -> (Walker<J>, Owner, Vec<Thief>)
+        ensures { result ≡ (self.walker, self.owner, self.thieves) }
+    {
+        let Self {
+            walker,
+            owner,
+            thieves,
+        } = self;
+        (walker, owner, thieves)
+    }
+}
+
+/// What one worker does until no box is open. Where memory runs out for any worker, all stop.
+pub fn work<R: Wait, J: Judge, G: Gate>(
+    rt: &R,
+    j: &J,
+    gate: &G,
+    word: &BestWord<J>,
+    stop: &Stop,
+    mut job: Job<J>,
+) -> Result<Job<J>, OutOfMemory>
+    requires word { judge_of word.now ≡ j.now }
+    requires ready { IsReady (J.meaning j.now) (J.fits j.now) word.now job }
+    ensures { IfOk result (λ done. IsDone (J.meaning j.now) word.now job done) }
+{
+    let backoff = Backoff::new();
+    let mut hand = None;
+    for _ in rt.forever() {
+        if stop.is_stopped() {
+            return Err(OutOfMemory);
+        }
+        match hand {
+            Some(place) => {
+                hand = step(j, gate, word, stop, &mut job, place)?;
+            }
+            None => {
+                hand = take(j, &mut job);
+                if hand.is_some() {
+                    backoff.reset();
+                } else if stop.all_closed() {
+                    return Ok(job);
+                } else {
+                    backoff.snooze();
+                }
+            }
+        }
+    }
+    unreachable!()
+}
+
+/// One step on the place in hand, after which others may have a path of this worker.
+fn step<J: Judge, G: Gate>(
+    j: &J,
+    gate: &G,
+    word: &BestWord<J>,
+    stop: &Stop,
+    job: &mut Job<J>,
+    place: Place,
+) -> Result<Option<Place>, OutOfMemory>
+    requires word { (judge_of word.now ≡ j.now) × IsSeatOf word.now job.old.walker.seat }
+    requires fits { J.fits j.now job.old.walker.scratch }
+    requires works { Works (J.meaning j.now) (place ∷ []) job.old }
+    ensures word { IsSeatOf word.now job.new.walker.seat }
+    ensures fits { J.fits j.now job.new.walker.scratch }
+    ensures same { IsSameJob job.old job.new }
+    ensures works { IfOk result (λ hand. Works (J.meaning j.now) (option_to_list hand) job.new) }
+{
+    match settle(j, gate, word, &mut job.walker, place) {
+        Ok(Some(lower)) => {
+            stop.one_more();
+            share(&mut job.owner, &mut job.walker.held);
+            Ok(Some(lower))
+        }
+        Ok(None) => {
+            stop.one_less();
+            Ok(None)
+        }
+        Err(OutOfMemory) => {
+            stop.stop();
+            Err(OutOfMemory)
+        }
+    }
+}
+
+/// A place for an empty hand, if there is one to be had.
+fn take<J: Judge>(j: &J, job: &mut Job<J>) -> Option<Place>
+    requires { Works (J.meaning j.now) [] job.old }
+    ensures works { Works (J.meaning j.now) (option_to_list result) job.new }
+    ensures same { IsSameJob job.old job.new × (job.new.walker.seat ≡ job.old.walker.seat) × (job.new.walker.scratch ≡ job.old.walker.scratch) }
+    ensures none { IfNone result (held_places job.new.walker.held ≡ []) }
+{
+    if let Some(place) = job.walker.held.pop() {
+        return Some(place);
+    }
+    let Some(path) = find(&mut job.owner, &mut job.thieves) else {
+        return None;
+    };
+    place_for(j, path)
+}
+
+/// The place of a path; none where the number is no path.
+pub fn place_for<J: Judge>(j: &J, path: u128) -> Option<Place>
+    ensures { MatchOption result (box_of (J.meaning j.now).shape path ≡ None) (λ place. (place.path ≡ path) × IsAt (J.meaning j.now).shape place) }
+{
+    place_of(j.shape(), path)
+}
+
+/// The last path of the worker's own deque, or the first of another's.
+fn find(owner: &mut Owner, thieves: &mut Vec<Thief>) -> Option<u128>
+    requires ends { ((owner_tally owner.old).part ≡ First) × Each IsThief thieves.old.items }
+    ensures owner { ((owner_tally owner.new).part ≡ First) × ((owner_tally owner.new).out ≡ (owner_tally owner.old).out) × ((owner_tally owner.new).put ≡ (owner_tally owner.old).put) }
+    ensures thieves { Each IsThief thieves.new.items }
+    ensures same { (owner_deque owner.new ≡ owner_deque owner.old) × (thief_deques thieves.new.items ≡ thief_deques thieves.old.items) }
+    ensures got { (h : ℕ → ℕ) → total h (owner_tally owner.new).got + stolen h thieves.new.items ≡ total h (owner_tally owner.old).got + stolen h thieves.old.items + total h (option_to_list result) }
+{
+    match owner.pop() {
+        Some(path) => Some(path),
+        None => steal_any(thieves.as_mut_slice()),
+    }
+}

@@ -1,0 +1,21 @@
+use Rattle.std.proofs.Common.{length, arith}
+use Rattle.tree_check.proofs.StackLemmas.{high_part_at, split_within}
+use Rattle.tree_check.proofs.stack.high_part.Goals as goal
+
+pub overflow_add-part : goal.overflow_add-part
+overflow_add-part c =
+    let s = split_within (length c.args.s.now) c.args.b.now.lo c.args.b.now.hi c.args.variable c.args.after c.requires in
+    omega (arith, s.before)
+
+pub bounds-b-variable : goal.bounds-b-variable
+bounds-b-variable c =
+    let s = split_within (length c.args.s.now) c.args.b.now.lo c.args.b.now.hi c.args.variable c.args.after c.requires in
+    omega (arith, s.within)
+
+pub bounds-part-variable : goal.bounds-part-variable
+bounds-part-variable c =
+    let s = split_within (length c.args.s.now) c.args.b.now.lo c.args.b.now.hi c.args.variable c.args.after c.requires in
+    omega (arith, s.within)
+
+pub returns : goal.returns
+returns c = high_part_at (length c.args.s.now) c.args.b.now.lo c.args.b.now.hi c.args.variable c.args.after c.requires

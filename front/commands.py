@@ -1,0 +1,166 @@
+"""The one list of commands, options and statuses: help, man page, completion and nearest names are made from it.
+
+A new command of the program is one entry of COMMANDS (and of OPTIONS, for each new option). `checks/words` compares
+the list with docs/FORMATS.md.
+"""
+from typing import NamedTuple
+
+
+class Option(NamedTuple):
+    """An option; `value` is what its next word is called, or None where it takes none."""
+
+    name: str
+    value: str | None
+    summary: str
+    default: str
+    values: tuple = ()
+    several: bool = False
+    limit: tuple = ()
+
+
+class Command(NamedTuple):
+    """A command; `proved` tells whether the proved program answers it, or the front around it."""
+
+    name: str
+    names: tuple
+    options: tuple
+    summary: str
+    text: str
+    example: str
+    proved: bool
+
+
+class Status(NamedTuple):
+    number: int
+    meaning: str
+    text: str
+
+
+OPTIONS = {
+    option.name: option
+    for option in (
+        Option("--need", "SIGNAL", "a signal of the table that has rows; may stand several times", "none", several=True),
+        Option("--vdd", "MV", "the supply in millivolts", "3300", limit=(0, 10_000)),
+        Option("--hclk", "HZ", "a wish for HCLK, in hertz", "none", limit=(0, 4_294_967_295)),
+        Option("--pclk1", "HZ", "a wish for PCLK1, in hertz", "none", limit=(0, 4_294_967_295)),
+        Option("--pclk2", "HZ", "a wish for PCLK2, in hertz", "none", limit=(0, 4_294_967_295)),
+        Option("--free", "WHAT", "what may change: pins, clock, all or none", "all", ("pins", "clock", "all", "none")),
+        Option("--workers", "N", "threads", "1", limit=(1, 16)),
+        Option("--proof", None, "the proof is printed after the report", "off"),
+        Option("-o", "FILE", "the file to write, whose name ends with .c; a header is put beside it", "standard output"),
+        Option("--off", "KIND", "a kind of note that is not to be told; may stand several times", "none", several=True),
+    )
+}
+
+# the options that `resolve` and its kin share, told as OPTION in a usage
+SHARED = ("--vdd", "--need", "--hclk", "--pclk1", "--pclk2", "--free")
+
+COMMANDS = {
+    command.name: command
+    for command in (
+        Command(
+            "pins", ("TABLE", "PROJECT"), ("--need",),
+            "where each signal sits, and what must move when one more is needed",
+            "Looks at the pins alone. Prints the placement that moves the fewest signals from where the project has "
+            "them, a line a signal: pin, signal, mode, and kept, moved or need.",
+            "pins tables/STM32F407VG.json examples/discovery-board.ioc --need CAN1_RX", True),
+        Command(
+            "tree", ("TABLE", "PROJECT"), ("--vdd",),
+            "what the project's clock tree runs at, and the first limit that it breaks",
+            "Prints each node of the clock tree in hertz, and `limits met` or `limits broken L K`. The status is 0 "
+            "either way.",
+            "tree examples/sample.json examples/too-fast.ioc", True),
+        Command(
+            "resolve", ("TABLE", "PROJECT"), SHARED + ("--workers", "--proof"),
+            "pins and clocks that meet every limit with the fewest changes, and a C function that sets them up",
+            "Searches pins and clock tree together. Prints the choice of least rank (fewest changes first) and a C "
+            "function that sets it up from reset. Where nothing fits, prints a refutation with status 1.",
+            "resolve tables/STM32F407VG.json examples/discovery-board.ioc", True),
+        Command(
+            "check", ("TABLE", "PROJECT", "PROOF"), SHARED,
+            "whether a refutation, or the proof behind a report, holds",
+            "Give it the words of the `resolve` that the proof is of, with the file of the proof after the project. It "
+            "shares no search with `resolve`, so it answers for a proof whoever wrote it.",
+            "check TABLE PROJECT PROOF --vdd 1800", True),
+        Command(
+            "case", ("NUMBER",), ("--workers",),
+            "solves a problem made from a number, which needs no files",
+            "For trying the program and for measuring it: the problem has 117,650,069,913,600 choices, so its time "
+            "tells what the machine does, and the answer is proved to be the least one like any other.",
+            "case 7", True),
+        Command(
+            "code", ("TABLE", "PROJECT"), SHARED + ("--workers", "-o"),
+            "the C text of `resolve` alone, and on success alone",
+            "Where `resolve` refuses, nothing goes to standard output or into the file, its line goes to standard "
+            "error, and the status is its own. With -o a header is written beside the file.",
+            "code TABLE PROJECT -o board_init.c", False),
+        Command(
+            "lint", ("TABLE", "PROJECT"), ("--need", "--off"),
+            "what the program takes as it stands and a person may not have meant",
+            "Prints notes, each with file and line. The status is 0 without notes and 1 with.",
+            "lint tables/STM32F407VG.json examples/motor-board.ioc", False),
+        Command(
+            "view", ("TABLE", "PROJECT"), SHARED + ("--workers",),
+            "one HTML page with the package, the clock tree and the C text",
+            "Prints a page that opens from disk and needs nothing from outside.",
+            "view TABLE PROJECT > board.html", False),
+        Command(
+            "install", ("PREFIX",), (),
+            "puts program, tables, man page and completion under a folder, to run without the kit",
+            "PREFIX/bin/toarnyk is the command then.",
+            "install /usr/local", False),
+        Command(
+            "help", ("[COMMAND]",), (),
+            "this help, or that of a command",
+            "`--help` before or behind a command is the same.",
+            "help resolve", False),
+    )
+}
+
+STATUSES = (
+    Status(0, "answered", "the placement, the tree, the report, or `accepted: ..`"),
+    Status(1, "nothing fits", "`no choice`; for `resolve` the refutation"),
+    Status(2, "the words are not of the grammar", "`usage: word N`"),
+    Status(3, "an input could not be read", "`read failed: NAME`"),
+    Status(4, "an input has more than 67,108,864 bytes", "`too long: NAME`"),
+    Status(5, "a fault of the table", "`tables: ..` with the path of its first fault"),
+    Status(6, "a fault of the project or of a need", "`project: ..` with its line"),
+    Status(7, "ranks would need more than 63 bits", "`too wide: variable V`"),
+    Status(8, "the output could not be written", "a prefix of the text"),
+    Status(9, "out of memory", "nothing"),
+    Status(10, "the proof is not accepted", "`proof: line N` or `proof: node N`"),
+    Status(11, "not built", "`not built: workers`"),
+    Status(20, "the system did not hand over the words", "nothing"),
+)
+
+ENVIRONMENT = (
+    ("TOARNYK_HINTS=no", "nothing is added to what the program prints (as with --quiet before the command)"),
+    ("NO_COLOR", "no colour on a terminal"),
+)
+
+
+def has(name):
+    """Whether the proved program has the command."""
+    return name in COMMANDS and COMMANDS[name].proved
+
+
+def shown(command):
+    """The options that a usage line spells; those that several commands share are told as [OPTION..]."""
+    return [name for name in command.options if name not in SHARED or not shares(command)]
+
+
+def shares(command):
+    return set(SHARED) <= set(command.options)
+
+
+def usage_of(option):
+    words = option.name if option.value is None else f"{option.name} {option.value}"
+    return f"[{words}].." if option.several else f"[{words}]"
+
+
+def usage_line(command):
+    """The usage with [OPTION..] for the options that several commands share."""
+    words = [command.name, *command.names]
+    if shares(command):
+        words.append("[OPTION..]")
+    return " ".join(words + [usage_of(OPTIONS[name]) for name in shown(command)])
