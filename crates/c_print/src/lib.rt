@@ -12,6 +12,3 @@ pub use fault::CFault;
 pub use laws::{one_reading, written_is_read};
 pub use read::read_c;
 pub use write::c_text;
-
-#[cfg(test)]
-mod tests;

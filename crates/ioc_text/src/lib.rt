@@ -15,6 +15,3 @@ pub use ioc::Ioc;
 pub use keys::pin_number;
 pub use line::Line;
 pub use read::read_ioc;
-
-#[cfg(test)]
-mod tests;

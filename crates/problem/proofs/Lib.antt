@@ -2,6 +2,5 @@ pub mod AgreeLemmas
 pub mod ChosenLemmas
 pub mod DomainLemmas
 pub mod MeetsLemmas
-pub mod SmallLemmas
 pub mod UseLemmas
 pub mod ValueLemmas

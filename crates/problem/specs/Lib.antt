@@ -1,4 +1,3 @@
 pub mod ClockValues
 pub mod Meets
 pub mod Problem
-pub mod Small

@@ -11,6 +11,3 @@ mod pins;
 pub use assembly::build;
 pub use laws::{clocks_are_in_range, meets_is_every_limit};
 pub use parts::{Part, Problem, ProblemParts};
-
-#[cfg(test)]
-mod tests;

@@ -13,6 +13,5 @@ pub mod NumberLemmas
 pub mod OneLemmas
 pub mod PlaceLemmas
 pub mod TellLemmas
-pub mod TestLemmas
 pub mod TreeLemmas
 pub mod WayLemmas

@@ -15,6 +15,3 @@ pub use make::canonical;
 pub use node::{CheckFault, Node, Proof, ProofFault};
 pub use read::read_proof;
 pub use write::write_proof;
-
-#[cfg(test)]
-mod tests;

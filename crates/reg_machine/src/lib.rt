@@ -16,6 +16,3 @@ pub use machine::Machine;
 pub use op::{Answer, Op, Rule, Stepped, Timeout};
 pub use pins::{af_kind, is_debug};
 pub use state::{State, Target};
-
-#[cfg(test)]
-mod tests;

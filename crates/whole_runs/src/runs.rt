@@ -98,6 +98,13 @@ fn stepped(m: &mut Machine, op: &Op, a: Answer) -> Stepped {
     }
 }
 
+/// A step for each access, whatever it answers.
+fn steps(m: &mut Machine, ops: &[Op], a: Answer) {
+    for op in ops {
+        stepped(m, op, a);
+    }
+}
+
 fn is_legal(m: &Machine) -> bool {
     m.legal()
 }
@@ -215,6 +222,26 @@ pub(crate) fn after(
     let mut m = machine(alloc, s)?;
     let ran = run(&mut m, ops, a);
     Ok(look(&m, ran, places))
+}
+
+/// What the last of some accesses answers from reset, a step each, with the same answer of the flags at each.
+pub(crate) fn told(
+    alloc: Global,
+    s: &Setting,
+    before: &[Op],
+    a: Answer,
+    op: Op,
+) -> Result<Stepped, Fail> {
+    let mut m = machine(alloc, s)?;
+    steps(&mut m, before, a);
+    Ok(stepped(&mut m, &op, a))
+}
+
+/// RCC_CFGR behind some accesses from reset, a step each.
+pub(crate) fn cfgr_behind(alloc: Global, s: &Setting, ops: &[Op], a: Answer) -> Result<u32, Fail> {
+    let mut m = machine(alloc, s)?;
+    steps(&mut m, ops, a);
+    Ok(configured(&m))
 }
 
 fn flags_come(m: &mut Machine, a: Answer) {

@@ -146,3 +146,25 @@ pub(crate) fn clock_pin() -> Setting
         pins: with_pin(no_pins(), 19, Mode::Alt(5)),
     }
 }
+
+/// A crystal of the HSE, and a supply that allows prefetch.
+pub(crate) fn crystal() -> Setting {
+    Setting {
+        facts: Facts {
+            osc_in: true,
+            ..bare_facts()
+        },
+        ..clock_pin()
+    }
+}
+
+/// Neither an input for the HSE nor a supply that allows prefetch.
+pub(crate) fn bare() -> Setting {
+    Setting {
+        facts: Facts {
+            vdd: 2000,
+            ..bare_facts()
+        },
+        ..clock_pin()
+    }
+}

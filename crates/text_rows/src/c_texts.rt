@@ -1,7 +1,8 @@
+//! Accesses as C texts, and the first faulty line of one.
 ghost use Rattle.res_base.specs.Lists.{Each};
 ghost use Rattle.reg_machine.specs.Words.{IsOp};
 
-use crate::{CFault, c_text, read_c};
+use c_print::{CFault, c_text, read_c};
 use reg_machine::{Op, Timeout};
 use reg_map::{GpioReg, Reg};
 use std::alloc::Global;

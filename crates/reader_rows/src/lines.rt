@@ -1,4 +1,5 @@
-use crate::{Ioc, IocFault, read_ioc};
+//! Lines, keys and escapes, and which faulty line is told.
+use ioc_text::{Ioc, IocFault, read_ioc};
 use std::alloc::{AllocError, Global};
 use std::process::Abort;
 use std::test::Fail;

@@ -1,8 +1,9 @@
+//! Refutations as texts, the first faulty line of one, and the canonical one of a single choice.
 ghost use Rattle.std.specs.Prelude.{◌≡◌, IfOk, [], ◌∷◌, Some};
 ghost use Rattle.refutation.specs.Outcomes.{IsCovered};
 
-use crate::{Node, Proof, ProofFault, canonical, read_proof, write_proof};
 use choice_rank::{Shape, ShapeFault};
+use refutation::{Node, Proof, ProofFault, canonical, read_proof, write_proof};
 use res_base::{Items, OutOfMemory, VarSet};
 use search_api::{Cause, Class, Closed, Outcome, Reason};
 use std::alloc::Global;

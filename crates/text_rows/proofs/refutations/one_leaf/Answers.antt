@@ -1,7 +1,7 @@
 use Rattle.std.proofs.Common.{ℕ, List, [], ◌∷◌, ◌++◌, ap, ◌∙◌}
 use Rattle.search_api.specs.declared.outcome.Closed.{Closed}
-use Rattle.refutation.proofs.TestLemmas.{leaf, one_leaf}
-use Rattle.refutation.proofs.tests.one_leaf.Goals as goal
+use Rattle.text_rows.proofs.LeafLemmas.{leaf, one_leaf}
+use Rattle.text_rows.proofs.refutations.one_leaf.Goals as goal
 
 pub returns : goal.returns
 returns c =

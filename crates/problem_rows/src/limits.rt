@@ -1,0 +1,124 @@
+//! The least limit that a clock choice breaks. Expected numbers are worked by hand.
+ghost use Rattle.res_model.specs.Clock.{AreFacts, IsInRange};
+
+use clock_limits::broken;
+use mcu_tables::{TableFault, Tables, read_tables};
+use res_model::{ClockChoice, Facts, Src};
+use std::alloc::Global;
+use std::test::Fail;
+
+/// The limits of an STM32F407, with two flash ranges.
+fn table() -> &'static str {
+    r#"{"version":1,"names":["STM32F407V(E-G)Tx"],"package":"LQFP100","pins":["PH0-OSC_IN"],"signals":[{"name":"RCC_OSC_IN","use":"osc","at":["PH0-OSC_IN"]}],"hse_in":"RCC_OSC_IN","hse_out":"RCC_OSC_OUT","ips":[],"clock":{"m":[2,63],"n":[50,432],"p":[2,4],"q":[2,15],"hpre":[1,2],"ppre1":[1,2,4],"ppre2":[1,2],"vos":[1,2]},"limits":{"crystal":[4000000,26000000],"bypass":[1000000,50000000],"vco_in":[1000000,2000000],"vco":[100000000,432000000],"sysclk":168000000,"pclk1":42000000,"pclk2":84000000},"scales":[{"vos":1,"max":168000000},{"vos":2,"max":144000000}],"flash":[{"from":1800,"to":2099,"prefetch":true,"rows":[20000000,40000000,160000000]},{"from":2700,"to":3600,"prefetch":true,"rows":[30000000,60000000,90000000,120000000,150000000,168000000]}],"defaults":{"src":"HSI","psrc":"HSI","hpre":1,"p":2,"m":16,"n":192,"q":4,"ppre1":1,"ppre2":1,"vos":1,"hse":8000000}}"#
+}
+
+fn tables(alloc: Global) -> Result<Tables, TableFault> {
+    read_tables(alloc, table().as_bytes())
+}
+
+const QUIET: Facts = Facts {
+    hse_hz: 8_000_000,
+    osc_in: false,
+    bypass: false,
+    need48: false,
+    exact48: false,
+    most48: false,
+    floor: 0,
+    vdd: 3300,
+    hclk: None,
+    pclk1: None,
+    pclk2: None,
+};
+
+const USB: Facts = Facts {
+    osc_in: true,
+    need48: true,
+    exact48: true,
+    floor: 14_200_001,
+    ..QUIET
+};
+
+/// The state after reset.
+const RESET: ClockChoice = ClockChoice {
+    src: Src::Hsi,
+    psrc: Src::Hsi,
+    hpre: 1,
+    p: 2,
+    m: 16,
+    n: 192,
+    q: 4,
+    ppre1: 1,
+    ppre2: 1,
+    vos: 1,
+};
+
+/// 168 MHz from a crystal of 8 MHz.
+const FULL: ClockChoice = ClockChoice {
+    src: Src::Pll,
+    psrc: Src::Hse,
+    m: 8,
+    n: 336,
+    q: 7,
+    ppre1: 4,
+    ppre2: 2,
+    ..RESET
+};
+
+/// The least limit that a choice breaks under the table.
+fn limit(alloc: Global, f: &Facts, c: &ClockChoice) -> Result<Option<u8>, Fail>
+    requires choice { IsInRange c.now }
+    requires facts { AreFacts f.now }
+{
+    let t = tables(alloc)?;
+    Ok(broken(&t, f, c))
+}
+
+#[test]
+fn the_state_after_reset_needs_a_flash_range(rt: HostRuntime) -> Result<(), Fail> {
+    assert_eq!(rt; limit(rt.alloc(), &QUIET, &RESET)?, None);
+    let low = Facts { vdd: 1700, ..QUIET };
+    assert_eq!(rt; limit(rt.alloc(), &low, &RESET)?, Some(13));
+    Ok(())
+}
+
+#[test]
+fn hertz_above_a_limit_count_to_the_last_part(rt: HostRuntime) -> Result<(), Fail> {
+    let f = Facts {
+        hse_hz: 48_000_001,
+        osc_in: true,
+        bypass: true,
+        ..QUIET
+    };
+    // PCLK1 is seven eighths of a hertz above 42,000,000
+    let c = ClockChoice {
+        m: 48,
+        n: 168,
+        ppre1: 2,
+        ..FULL
+    };
+    assert_eq!(rt; limit(rt.alloc(), &f, &c)?, Some(8));
+    Ok(())
+}
+
+#[test]
+fn a_full_tree_with_usb_breaks_no_limit(rt: HostRuntime) -> Result<(), Fail> {
+    assert_eq!(rt; limit(rt.alloc(), &USB, &FULL)?, None);
+    let slow = ClockChoice { q: 8, ..FULL };
+    assert_eq!(rt; limit(rt.alloc(), &USB, &slow)?, Some(10));
+    Ok(())
+}
+
+#[test]
+fn the_hse_needs_its_input_only_where_it_is_used(rt: HostRuntime) -> Result<(), Fail> {
+    let idle = ClockChoice {
+        psrc: Src::Hse,
+        ..RESET
+    };
+    assert_eq!(rt; limit(rt.alloc(), &QUIET, &idle)?, None);
+    let used = ClockChoice {
+        src: Src::Hse,
+        ..RESET
+    };
+    assert_eq!(rt; limit(rt.alloc(), &QUIET, &used)?, Some(3));
+    Ok(())
+}
