@@ -10,3 +10,4 @@ pub mod ShownLemmas
 pub mod SingleLemmas
 pub mod SizeLemmas
 pub mod SpreadLemmas
+pub mod WishLemmas

@@ -35,7 +35,7 @@ wished_says : (wish : Option ℕ) (x : Fraction) → IsTrue (is_as_wished wish x
 wished_says None x = (λ e. tt, λ h. refl)
 wished_says (Some wish) x = equal_says x (whole wish)
 
-max_says : (max : Option ℕ) (x : Fraction) → IsTrue (is_within_max x max) ↔ IsWithinMax x max
+pub max_says : (max : Option ℕ) (x : Fraction) → IsTrue (is_within_max x max) ↔ IsWithinMax x max
 max_says None x = (λ e. absurd (cc), λ h. absurd h)
 max_says (Some max) x = at_most_says x (whole max)
 
@@ -72,7 +72,7 @@ row_at x (row ∷ rows) (suc w) inside h = or_later (at_most x (whole row)) (lis
     or_later true v e = refl
     or_later false v e = e
 
-covered_says : (t : TableParts) (vdd : ℕ) (x : Fraction) → IsTrue (is_covered t vdd x) ↔ ((w : ℕ) × RowCovers t vdd w x)
+pub covered_says : (t : TableParts) (vdd : ℕ) (x : Fraction) → IsTrue (is_covered t vdd x) ↔ ((w : ℕ) × RowCovers t vdd w x)
 covered_says t vdd x = (
   λ e. let r = row_of x (flash_rows t vdd) e in (r.0, (r.1, r.2)),
   λ h. row_at x (flash_rows t vdd) h.0 h.1.0 h.1.1,

@@ -1,12 +1,15 @@
 -- The laws of limits.
-use Rattle.std.specs.Prelude.{◌≡◌, ℕ, ◌<◌, Bool, true, false, not, ◌⊎◌, List, Option, Some, None}
+use Rattle.std.specs.Prelude.{◌≡◌, ℕ, ◌*◌, ◌<◌, Bool, true, false, not, ◌⊎◌, List, Option, Some, None}
+use Rattle.res_base.specs.Fraction.{whole}
+use Rattle.res_base.specs.Lists.{Member}
 use Rattle.res_model.specs.declared.clock.ClockBox.{ClockBox}
 use Rattle.res_model.specs.declared.clock.ClockChoice.{ClockChoice}
 use Rattle.res_model.specs.declared.clock.Facts.{Facts}
 use Rattle.res_model.specs.declared.table.TableParts.{TableParts}
 use Rattle.res_model.specs.Clock.{IsBetween}
-use Rattle.res_model.specs.Limits.{TestsTell, meets_limit, broken_limit}
-use Rattle.clock_limits.specs.Ranges.{AreInRange, IsClockBox, IsIn, IsOnePlace, shows_limit, shown_limit, stands_alone}
+use Rattle.res_model.specs.Limits.{TestsTell, IsWithinMax, meets_limit, broken_limit}
+use Rattle.res_model.specs.Power.{RowCovers, scale_limit}
+use Rattle.clock_limits.specs.Ranges.{Allowed, AreInRange, IsClockBox, IsIn, IsOnePlace, IsWithin, allowed, greatest_of, hclk_reach, least_of, shows_limit, shown_limit, stands_alone}
 
 -- a limit that is shown for a box is broken by each choice in it, or the wish for HCLK is
 abbrev pub ShownIsBroken : Type 0
@@ -43,3 +46,30 @@ abbrev pub ShownIsLeast : Type 0
 ShownIsLeast =
     (t : TableParts) (f : Facts) (values : List (List ℕ)) (b : ClockBox)
     → IsLeastBroken (λ k. not (shows_limit t f values b k)) (shown_limit t f values b)
+
+-- a wish for HCLK that no HCLK of the box can be is shown
+abbrev pub WishOutOfReachIsShown : Type 0
+WishOutOfReachIsShown =
+    (t : TableParts) (f : Facts) (values : List (List ℕ)) (b : ClockBox) (wish : ℕ) → f.hclk ≡ Some wish
+    → (¬ IsWithin (hclk_reach f (allowed values b)) (whole wish)) → shows_limit t f values b 14 ≡ true
+
+-- what an HCLK of this many hertz breaks is shown, whatever else HCLK may be in the box
+pub record IsShownOf (t : TableParts) (f : Facts) (a : Allowed) (hclk : ℕ) (shows : ℕ → Bool) : Type 0 where
+  -- no scale of the box covers it
+  pub scale : ((vos : ℕ) → Member vos a.vos → ¬ IsWithinMax (whole hclk) (scale_limit t vos)) → shows 7 ≡ true
+  -- it is too fast for a bus, by the greatest divider
+  pub pclk1 : t.limits.pclk1 * greatest_of a.ppre1 < hclk → shows 8 ≡ true
+  pub pclk2 : t.limits.pclk2 * greatest_of a.ppre2 < hclk → shows 9 ≡ true
+  -- it is below the floor of the IPs in use
+  pub floor : hclk < f.floor → shows 12 ≡ true
+  -- no flash row covers it
+  pub row : ((w : ℕ) → ¬ RowCovers t f.vdd w (whole hclk)) → shows 13 ≡ true
+  -- no divider makes a bus as wished
+  pub wish1 : (w : ℕ) → f.pclk1 ≡ Some w → (w * greatest_of a.ppre1 < hclk) ⊎ (hclk < w * least_of a.ppre1) → shows 15 ≡ true
+  pub wish2 : (w : ℕ) → f.pclk2 ≡ Some w → (w * greatest_of a.ppre2 < hclk) ⊎ (hclk < w * least_of a.ppre2) → shows 16 ≡ true
+
+-- a wish for HCLK narrows what HCLK may be to the wish alone: where the box can have it, what it breaks is shown
+abbrev pub WishNarrows : Type 0
+WishNarrows =
+    (t : TableParts) (f : Facts) (values : List (List ℕ)) (b : ClockBox) (wish : ℕ) → f.hclk ≡ Some wish
+    → shows_limit t f values b 14 ≡ false → IsShownOf t f (allowed values b) wish (shows_limit t f values b)

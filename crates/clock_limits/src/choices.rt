@@ -74,6 +74,3 @@ pub fn broken(t: &Tables, f: &Facts, c: &ClockChoice) -> Option<u8>
 {
     first_broken(&met_by(t.parts(), f, c))
 }
-
-#[cfg(test)]
-mod tests;

@@ -1,5 +1,5 @@
 //! What limits that are shown for a box say of its choices.
-ghost use Rattle.clock_limits.specs.Laws.{TestsAreRight, BrokenIsLeast, ShownIsLeast, ShownIsBroken, ShownAloneIsBroken, OneChoiceIsExact};
+ghost use Rattle.clock_limits.specs.Laws.{TestsAreRight, BrokenIsLeast, ShownIsLeast, ShownIsBroken, ShownAloneIsBroken, OneChoiceIsExact, WishOutOfReachIsShown, WishNarrows};
 
 /// Each test of a limit tells whether its sentence holds.
 pub fn tests_are_right()
@@ -29,4 +29,10 @@ pub fn shown_alone_is_broken()
 /// On a box with one choice, the limit that is shown is the one that the choice breaks.
 pub fn one_choice_is_exact()
     ensures { OneChoiceIsExact }
+{}
+
+/// With a wish for HCLK, a box is judged as if its HCLK were the wish; where it can't be, limit 14 is shown.
+pub fn wish_narrows()
+    ensures out_of_reach { WishOutOfReachIsShown }
+    ensures narrows { WishNarrows }
 {}

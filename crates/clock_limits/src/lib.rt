@@ -12,6 +12,6 @@ pub use boxes::{is_shown, range_broken};
 pub use choices::broken;
 pub use laws::{
     broken_is_least, one_choice_is_exact, shown_alone_is_broken, shown_is_broken, shown_is_least,
-    tests_are_right,
+    tests_are_right, wish_narrows,
 };
 pub use res_model::{ClockBox, ClockChoice, Facts};

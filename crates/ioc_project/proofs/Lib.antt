@@ -1,3 +1,4 @@
 mod FirstOutside
+mod NeedLaws
 mod PinOrder
 pub mod ProjectLaws

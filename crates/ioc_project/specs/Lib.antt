@@ -1,4 +1,5 @@
 pub use Rattle.res_model.specs.Placed
+pub mod Laws
 pub mod Project
 pub mod ProjectFaults
 pub mod Read

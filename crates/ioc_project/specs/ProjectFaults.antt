@@ -1,4 +1,4 @@
--- What a reader answers that refuses by a `ProjectFault`. Want of memory is the one free answer.
+-- What a reader answers that refuses by a `ProjectFault`. Where it takes memory, want of it is the one free answer.
 use Rattle.std.specs.Prelude.{◌≡◌, Result, Ok, Err}
 use Rattle.ioc_project.specs.declared.fault.ProjectFault.{ProjectFault}
 use Rattle.ioc_project.specs.declared.fault.ProjectFault.TheVariants.{WrongPart, UnknownPin, UnknownSignal, UnknownNeed, NotCandidate, BadValue, OutOfTable, TooMany, Memory}
@@ -19,3 +19,8 @@ Refuses (TooMany count) read = read ≡ Err (TooMany count)
 abbrev pub Gives : {X Y : Type 0} → (X → Y) → Result X ProjectFault → Result Y ProjectFault → Type 0
 Gives look (Ok x) read = read ≡ Ok (look x)
 Gives look (Err e) read = Refuses e read
+
+-- the same where no memory is taken: each fault is the definition's
+abbrev pub Tells : {X Y : Type 0} → (X → Y) → Result X ProjectFault → Result Y ProjectFault → Type 0
+Tells look (Ok x) read = read ≡ Ok (look x)
+Tells look (Err e) read = read ≡ Err e

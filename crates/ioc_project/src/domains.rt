@@ -1,6 +1,6 @@
 ghost use Rattle.std.specs.Prelude.{◌≡◌, ◌<◌, length};
 ghost use Rattle.ioc_project.specs.Project.{is_among, is_within, domain_tests, all_within, in_domains, fixes_clock, fixes_signals};
-ghost use Rattle.ioc_project.specs.ProjectFaults.{Gives};
+ghost use Rattle.ioc_project.specs.ProjectFaults.{Tells};
 ghost use Rattle.ioc_project.specs.Tests.{passes};
 
 use crate::fault::ProjectFault;
@@ -56,7 +56,7 @@ fn is_in_domain(d: &Domains, place: usize, value: u64) -> bool
 }
 
 fn all_within(d: &Domains, homes: &[Home; 10]) -> Result<(), ProjectFault>
-    ensures { Gives (λ unit. unit) result (all_within (domain_tests d.now) homes.now) }
+    ensures { Tells (λ unit. unit) result (all_within (domain_tests d.now) homes.now) }
 {
     for (place, home) in homes.iter().enumerate() {
         if !is_in_domain(d, place, home.value) {
@@ -73,7 +73,7 @@ pub(crate) fn in_domains(
     fixed: bool,
     homes: &[Home; 10],
 ) -> Result<(), ProjectFault>
-    ensures { Gives (λ unit. unit) result (in_domains t.now fixed homes.now) }
+    ensures { Tells (λ unit. unit) result (in_domains t.now fixed homes.now) }
 {
     if !fixed {
         return Ok(());

@@ -5,6 +5,7 @@ mod clocks;
 mod domains;
 mod fault;
 mod homes;
+mod laws;
 mod marks;
 mod needs;
 mod part;
@@ -15,8 +16,6 @@ mod values;
 
 pub use clocks::facts;
 pub use fault::ProjectFault;
+pub use laws::needs_have_no_home;
 pub use project::read_project;
 pub use res_model::{Home, Project, Pull, Signal, Speed};
-
-#[cfg(test)]
-mod tests;

@@ -1,7 +1,7 @@
 ghost use Rattle.std.specs.Prelude.{◌≡◌, ◌≤◌, ◌+◌, length, IfOk};
 ghost use Rattle.res_model.specs.Signals.{signal_named};
 ghost use Rattle.ioc_project.specs.Project.{capped, need_of, known_need, needs_from, few};
-ghost use Rattle.ioc_project.specs.ProjectFaults.{Gives};
+ghost use Rattle.ioc_project.specs.ProjectFaults.{Gives, Tells};
 ghost use Rattle.res_model.specs.Steps.{with_front};
 
 use crate::fault::ProjectFault;
@@ -70,7 +70,7 @@ pub(crate) fn push_needs(
 /// Whether signals and needs are few enough.
 #[tactic(auto, unfolding(crate::specs::Project::few))]
 pub(crate) fn few(signals: &[Signal]) -> Result<(), ProjectFault>
-    ensures { Gives (λ _. signals.now) result (few signals.now) }
+    ensures { Tells (λ _. signals.now) result (few signals.now) }
 {
     if signals.len() > MOST {
         return Err(ProjectFault::TooMany {

@@ -4,7 +4,7 @@ ghost use Rattle.std.specs.Str.{bytes_eq};
 ghost use Rattle.ioc_text.specs.Lines.{line_at};
 ghost use Rattle.res_model.specs.Numbers.{number_of};
 ghost use Rattle.ioc_project.specs.Project.{truth_of, value_or, named_part, named_package, part_of, kept_of};
-ghost use Rattle.ioc_project.specs.ProjectFaults.{Gives};
+ghost use Rattle.ioc_project.specs.ProjectFaults.{Tells};
 
 use crate::fault::ProjectFault;
 use crate::values::{number_of, truth_at};
@@ -19,7 +19,7 @@ fn is_name(names: &[Text], name: &[u8]) -> bool
 }
 
 fn named_part(t: &TableParts, ioc: &Ioc) -> Result<(), ProjectFault>
-    ensures { Gives (λ unit. unit) result (named_part t.now (line_at ioc.now (codes "Mcu.Name"))) }
+    ensures { Tells (λ unit. unit) result (named_part t.now (line_at ioc.now (codes "Mcu.Name"))) }
 {
     let Some(line) = ioc.get(b"Mcu.Name") else {
         return Err(ProjectFault::WrongPart { line: 0 });
@@ -31,7 +31,7 @@ fn named_part(t: &TableParts, ioc: &Ioc) -> Result<(), ProjectFault>
 }
 
 fn named_package(t: &TableParts, ioc: &Ioc) -> Result<(), ProjectFault>
-    ensures { Gives (λ unit. unit) result (named_package t.now (line_at ioc.now (codes "Mcu.Package"))) }
+    ensures { Tells (λ unit. unit) result (named_package t.now (line_at ioc.now (codes "Mcu.Package"))) }
 {
     let Some(line) = ioc.get(b"Mcu.Package") else {
         return Ok(());
@@ -45,7 +45,7 @@ fn named_package(t: &TableParts, ioc: &Ioc) -> Result<(), ProjectFault>
 /// Whether the part and the package are the table's.
 #[tactic(auto, unfolding(crate::specs::Project::part_of))]
 pub(crate) fn part_of(t: &TableParts, ioc: &Ioc) -> Result<(), ProjectFault>
-    ensures { Gives (λ unit. unit) result (part_of t.now ioc.now) }
+    ensures { Tells (λ unit. unit) result (part_of t.now ioc.now) }
 {
     named_part(t, ioc)?;
     named_package(t, ioc)
@@ -53,7 +53,7 @@ pub(crate) fn part_of(t: &TableParts, ioc: &Ioc) -> Result<(), ProjectFault>
 
 /// The number of pins has no other use than to be read.
 fn pins_count(ioc: &Ioc) -> Result<u64, ProjectFault>
-    ensures { Gives (λ count. count) result (value_or 0 number_of (line_at ioc.now (codes "Mcu.PinsNb"))) }
+    ensures { Tells (λ count. count) result (value_or 0 number_of (line_at ioc.now (codes "Mcu.PinsNb"))) }
 {
     let Some(line) = ioc.get(b"Mcu.PinsNb") else {
         return Ok(0);
@@ -64,7 +64,7 @@ fn pins_count(ioc: &Ioc) -> Result<u64, ProjectFault>
 /// Whether all signals are kept.
 #[tactic(auto, unfolding(crate::specs::Project::kept_of))]
 pub(crate) fn kept_of(ioc: &Ioc) -> Result<bool, ProjectFault>
-    ensures { Gives (λ kept. kept) result (kept_of ioc.now) }
+    ensures { Tells (λ kept. kept) result (kept_of ioc.now) }
 {
     pins_count(ioc)?;
     truth_at(ioc, b"KeepUserPlacement")

@@ -4,7 +4,7 @@ ghost use Rattle.std.specs.Option.{option_copied};
 ghost use Rattle.ioc_text.specs.Lines.{line_at};
 ghost use Rattle.res_model.specs.Signals.{signal_named};
 ghost use Rattle.ioc_project.specs.Project.{truth_of, pull_of, speed_of, value_or, is_virtual, pin_line_at, is_some_of, is_taken, place_of, place_for, signal_given, name_given, is_misplaced, candidate, signal_of, with_pin, signals_after};
-ghost use Rattle.ioc_project.specs.ProjectFaults.{Gives};
+ghost use Rattle.ioc_project.specs.ProjectFaults.{Gives, Tells};
 ghost use Rattle.res_model.specs.declared.project.Pull.TheVariants.{None as NoPull};
 ghost use Rattle.res_model.specs.declared.project.Speed.TheVariants.{Low};
 ghost use Rattle.ioc_project.specs.Views.{seen_signal};
@@ -76,7 +76,7 @@ fn is_taken(signals: &[Signal], place: u8) -> bool
 #[tactic(auto, unfolding(crate::specs::Project::place_for))]
 fn place_for(t: &TableParts, before: &[Signal], line: &Line) -> Result<u8, ProjectFault>
     requires { length t.now.pins ≤ 144 }
-    ensures { Gives (λ place. place) result (place_for t.now before.now line.now) }
+    ensures { Tells (λ place. place) result (place_for t.now before.now line.now) }
 {
     let Some(place) = place_of(t, line.value.as_slice()) else {
         return Err(ProjectFault::UnknownPin { line: line.number });
@@ -163,7 +163,7 @@ fn candidate(
     place: u8,
     given: Option<(u32, &TableSignal)>,
 ) -> Result<(), ProjectFault>
-    ensures { Gives (λ unit. unit) result (candidate locked place (seen_signal given.entry)) }
+    ensures { Tells (λ unit. unit) result (candidate locked place (seen_signal given.entry)) }
 {
     let Some((line, signal)) = given else {
         return Ok(());
