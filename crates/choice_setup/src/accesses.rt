@@ -12,7 +12,6 @@ ghost use Rattle.choice_setup.specs.SetUp.{setting_of};
 
 use crate::laws::choices_are_allowed;
 use crate::settings::setting_of;
-use init_gen::{Setting, generate};
 use problem::Problem;
 use reg_machine::Op;
 use res_base::OutOfMemory;
@@ -35,7 +34,7 @@ fn is_allowed(p: &Problem, at: &[u16])
 /// The accesses that bring a chip from reset to a choice. They are sound: whatever flags come, none of them is
 /// forbidden, each state on the way is legal, and the run ends, with the clocks and pins of the choice or at an await
 /// that timed out.
-pub fn writes(alloc: Global, p: &Problem, at: &[u16]) -> Result<Vec<Op>, OutOfMemory>
+pub fn generate(alloc: Global, p: &Problem, at: &[u16]) -> Result<Vec<Op>, OutOfMemory>
     requires choice { IsChoice p.now.shape at.now }
     requires whole { p.now.first ≢ 0 }
     requires meets { meets p.now at.now ≡ true }
@@ -44,5 +43,5 @@ pub fn writes(alloc: Global, p: &Problem, at: &[u16]) -> Result<Vec<Op>, OutOfMe
 {
     is_allowed(p, at);
     let setting = setting_of(p, at);
-    generate(alloc, &setting)
+    init_gen::generate(alloc, &setting)
 }

@@ -5,7 +5,9 @@ mod accesses;
 mod laws;
 mod pins;
 mod settings;
+mod targets;
 
-pub use accesses::writes;
+pub use accesses::generate;
 pub use laws::choices_are_allowed;
 pub use settings::setting_of;
+pub use targets::target;

@@ -8,5 +8,5 @@ mod placement;
 mod reports;
 
 pub use cases::case_text;
-pub use placement::placement_text;
+pub use placement::{pins_text, placement_text};
 pub use reports::report_text;

@@ -69,24 +69,42 @@ fn put_rank(alloc: Global, out: &mut Vec<u8>, p: &Problem, at: &[u16]) -> Result
     Ok(())
 }
 
-/// The text of a placement: its rank line, the number of signals, and a line for each of them with its pin, mode and
-/// state.
+/// Appends the number of signals, and a line for each of them.
+fn put_pins(alloc: Global, out: &mut Vec<u8>, p: &Problem, at: &[u16]) -> Result<(), OutOfMemory>
+    requires { IsChoice p.now.shape at.now }
+    ensures { OnOk result (out.new.items ≡ out.old.items ++ pins_text p.now.tables p.now.signals (uses_of p.now at.now)) }
+{
+    has_places(p, at);
+    let uses = uses_of(alloc, p, at)?;
+    let parts = p.parts();
+    put_pins_text(
+        alloc,
+        out,
+        parts.tables.parts(),
+        parts.signals.as_slice(),
+        uses.as_slice(),
+    )?;
+    Ok(())
+}
+
+/// The pins of a choice: the number of signals, and a line for each of them with its pin, mode and state.
+pub fn pins_text(alloc: Global, p: &Problem, at: &[u16]) -> Result<Vec<u8>, OutOfMemory>
+    requires { IsChoice p.now.shape at.now }
+    ensures { IfOk result (λ x. x.items ≡ pins_text p.now.tables p.now.signals (uses_of p.now at.now)) }
+{
+    let mut out = Vec::new(alloc);
+    put_pins(alloc, &mut out, p, at)?;
+    Ok(out)
+}
+
+/// The text of a placement: its rank line, and its pins below it.
 #[tactic(auto, unfolding(crate::specs::Placed::placement_text))]
 pub fn placement_text(alloc: Global, p: &Problem, at: &[u16]) -> Result<Vec<u8>, OutOfMemory>
     requires { IsChoice p.now.shape at.now }
     ensures { IfOk result (λ x. x.items ≡ placement_text p.now at.now) }
 {
-    has_places(p, at);
-    let uses = uses_of(alloc, p, at)?;
     let mut out = Vec::new(alloc);
     put_rank(alloc, &mut out, p, at)?;
-    let parts = p.parts();
-    put_pins_text(
-        alloc,
-        &mut out,
-        parts.tables.parts(),
-        parts.signals.as_slice(),
-        uses.as_slice(),
-    )?;
+    put_pins(alloc, &mut out, p, at)?;
     Ok(out)
 }

@@ -7,7 +7,7 @@ use Rattle.reg_machine.specs.Legal.{IsLegal}
 use Rattle.reg_machine.specs.Reset.{reset_of}
 use Rattle.reg_machine.specs.Run.{Sound}
 use Rattle.choice_setup.specs.SetUp.{setting_of}
-use Rattle.choice_setup.proofs.accesses.writes.Goals as goal
+use Rattle.choice_setup.proofs.accesses.generate.Goals as goal
 
 pub returns-clause-writes : goal.returns-clause-writes
 returns-clause-writes c =
