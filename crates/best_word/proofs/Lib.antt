@@ -1,2 +1,3 @@
 mod Moves
-mod PartLemmas
+pub mod PartLemmas
+mod RankLemmas

@@ -10,7 +10,7 @@ use Rattle.atomic_table.proofs.Lists.{at_set, set_else, at_longer}
 use Rattle.best_word.specs.declared.part.Part.TheVariants.{First, Other, Spent}
 use Rattle.res_base.specs.Lists.{Member}
 use Rattle.res_base.proofs.ListLemmas.{member_left, member_right, member_split, member_last, member_one}
-use Rattle.best_word.proofs.PartLemmas.{set_at, first-spent, begins as parts_begin, stays as parts_stay, each_set, each_snoc, keeps as parts_keep, splits as parts_split, joins as parts_join, alone as parts_alone}
+use Rattle.best_word.proofs.PartLemmas.{set_at, first-spent, begins as parts_begin, each_set, each_snoc, keeps as parts_keep, splits as parts_split, joins as parts_join, alone as parts_alone}
 use Rattle.best_word.specs.declared.word.View.{View}
 use Rattle.best_word.specs.Word.{newcomer, one_more_out, together, saw_more, blank_more, kept_more, KeptBy, Least, Holds, SeesRank, SeesNone, Loaded, Offered}
 
@@ -37,7 +37,6 @@ module _ {J : Type 0} (legal : ℕ → Type 0) where
         low = λ port w at r i. absurd (subst (λ (x : View J). Member r x.kept) (only_one port v w at) i);
         stands = λ s. absurd (omega (arith, s, high));
         seen = λ port w at r i. absurd (subst (λ (x : View J). Member r x.saw) (only_one port v w at) i);
-        first = (0, v, refl, refl);
         parts = parts_begin (λ (u : View J). u.part) (λ (u : View J). u.out) v refl refl;
         spent = λ port w at g. absurd (first-spent (sym (ap (λ (x : View J). x.part) (only_one port v w at)) ∙ g));
       }
@@ -57,7 +56,6 @@ module _ {J : Type 0} (legal : ℕ → Type 0) where
         low = each_set (λ j u. (r : ℕ) → Member r u.kept → m ≤ r) views port w (λ r x. ⊎_elim (λ o. omega (arith, less, h.low port v at r o)) (λ t. t.1) (kept r x)) (λ j u _ e r x. omega (arith, less, h.low j u e r x));
         stands = λ s. ⊎_elim (λ (e : m ≡ n). subst (KeptBy (set views port w)) (sym e) (up n (h.stands (omega arith)))) (λ x. (port, w, set_at views port w v at, x)) (now s);
         seen = each_set (λ j u. (r : ℕ) → Member r u.saw → KeptBy (set views port w) r) views port w (λ r x. ⊎_elim (λ o. up r (h.seen port v at r o)) (λ k. up r k) (saw r x)) (λ j u _ e r x. up r (h.seen j u e r x));
-        first = parts_stay (λ (u : View J). u.part) (λ (u : View J). u.out) views port v w at (λ f. part ∙ f) h.first;
         parts = parts_keep (λ (u : View J). u.part) (λ (u : View J). u.out) views port v w at part out h.parts;
         spent = each_set (λ j u. u.part ≡ Spent → (u.kept ≡ []) × (u.saw ≡ [])) views port w gone (λ j u _ e. h.spent j u e);
       }
@@ -122,7 +120,6 @@ module _ {J : Type 0} (legal : ℕ → Type 0) where
         low = each_snoc (λ u. (r : ℕ) → Member r u.kept → n ≤ r) vs new (λ r x. absurd x) (each_set (λ j u. (r : ℕ) → Member r u.kept → n ≤ r) views port l (h.low port v at) (λ j u _ e. h.low j u e));
         stands = λ s. up n (h.stands s);
         seen = each_snoc (λ u. (r : ℕ) → Member r u.saw → KeptBy (vs ++ new ∷ []) r) vs new (λ r x. absurd x) (each_set (λ j u. (r : ℕ) → Member r u.saw → KeptBy (vs ++ new ∷ []) r) views port l (λ r x. up r (h.seen port v at r x)) (λ j u _ e r x. up r (h.seen j u e r x)));
-        first = let k = parts_stay (λ (u : View J). u.part) (λ (u : View J). u.out) views port v l at (λ f. first) h.first in (k.0, k.1, at_longer vs (new ∷ []) k.0 k.1 k.2, k.3);
         parts = parts_split (λ (u : View J). u.part) (λ (u : View J). u.out) views port v l new at first first refl refl refl h.parts;
         spent = each_snoc (λ u. u.part ≡ Spent → (u.kept ≡ []) × (u.saw ≡ [])) vs new (λ _. (refl, refl)) (each_set (λ j u. u.part ≡ Spent → (u.kept ≡ []) × (u.saw ≡ [])) views port l (h.spent port v at) (λ j u _ e. h.spent j u e));
       }
@@ -150,8 +147,6 @@ module _ {J : Type 0} (legal : ℕ → Type 0) where
         seen = each_set (λ j y. (r : ℕ) → Member r y.saw → KeptBy (set vs other gone) r) vs other gone (λ r x. absurd x)
             (λ j y _ e. each_set (λ j y. (r : ℕ) → Member r y.saw → KeptBy (set vs other gone) r) views port b
             (λ r x. ⊎_elim (λ a. up r (h.seen port v at r a)) (λ c. up r (h.seen other u was r c)) (member_split r v.saw u.saw x)) (λ j y _ e r x. up r (h.seen j y e r x)) j y e);
-        first = parts_stay (λ (y : View J). y.part) (λ (y : View J). y.out) vs other u gone there (λ f. absurd (not_other (sym f ∙ o)))
-            (parts_stay (λ (y : View J). y.part) (λ (y : View J). y.out) views port v b at (λ f. first) h.first);
         parts = parts_join (λ (y : View J). y.part) (λ (y : View J). y.out) views port other v u b gone at first apart there o first refl refl refl h.parts;
         spent = each_set (λ j y. y.part ≡ Spent → (y.kept ≡ []) × (y.saw ≡ [])) vs other gone (λ _. (refl, refl))
             (λ j y _ e. each_set (λ j y. y.part ≡ Spent → (y.kept ≡ []) × (y.saw ≡ [])) views port b (λ g. absurd (not_spent (sym first ∙ g))) (λ j y _ e. h.spent j y e) j y e);
@@ -159,9 +154,6 @@ module _ {J : Type 0} (legal : ℕ → Type 0) where
     where
       not_spent : First ≡ Spent → ⊥
       not_spent e = cc
-
-      not_other : First ≡ Other → ⊥
-      not_other e = cc
 
   pub joins : (id : ℕ) (v : View J) (other : ℕ) (u : View J) → v.part ≡ First → u.part ≡ Other → Joins (Holds legal) id v other u (together v u) (newcomer Spent)
   joins id v other u first o s h at apart there = (h.0, h.1, joins_keep h.0 s.views id other v u at first apart there o h.2)

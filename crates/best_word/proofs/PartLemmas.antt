@@ -4,7 +4,7 @@ use mathlib.Core.Option.{some, some-ne-none, some-injective}
 use lib.ListN.{get_elem?}
 use mathlib.Core.Logic.{dite}
 use native.Mathlib.Decide.{ℕ_discrete}
-use Rattle.atomic_table.proofs.Lists.{at_set, at_snoc, set_else}
+use Rattle.atomic_table.proofs.Lists.{at_set, at_snoc, at_longer, set_else}
 use Rattle.best_word.specs.declared.part.Part.{Part}
 use Rattle.best_word.specs.declared.part.Part.TheVariants.{First, Other, Spent}
 use Rattle.best_word.specs.Parts.{others, OneFirst}
@@ -31,12 +31,13 @@ pub first-spent : First ≢ Spent
 first-spent e = cc
 
 module _ {V : Type 0} (part : V → Part) (out : V → ℕ) where
-  Is : List V → Type 0
-  Is = λ (views : List V). OneFirst part out views
+  abbrev IsThere : List V → ℕ → Type 0
+  IsThere views seat = (v : V) × (get_elem? views seat ≡ some v) × (part v ≡ First)
 
   pub begins : (v : V) → part v ≡ First → out v ≡ 0 → OneFirst part out (v ∷ [])
   begins v is none = record {
     seat = 0;
+    there = (v, refl, is);
     one = one_of;
     only = only_of;
     count = let p : others (part v) ≡ 0 = ap others is in omega arith;
@@ -51,17 +52,18 @@ module _ {V : Type 0} (part : V → Part) (out : V → ℕ) where
       only_of (suc k) u e f = absurd (some-ne-none u (sym e))
 
   -- the first view is still there, where a view that was first becomes one that is
-  pub stays : (views : List V) (port : ℕ) (v w : V) → get_elem? views port ≡ some v → (part v ≡ First → part w ≡ First) → (seat : ℕ) × (x : V) × (get_elem? views seat ≡ some x) × (part x ≡ First) → (seat : ℕ) × (x : V) × (get_elem? (set views port w) seat ≡ some x) × (part x ≡ First)
-  stays views port v w at f k = dite (ℕ_discrete k.0 port)
+  stays : (views : List V) (port : ℕ) (v w : V) → get_elem? views port ≡ some v → (part v ≡ First → part w ≡ First) → (seat : ℕ) → IsThere views seat → IsThere (set views port w) seat
+  stays views port v w at f seat k = dite (ℕ_discrete seat port)
       (λ e.
-      let same : v ≡ k.1 = some-injective v k.1 (sym at ∙ (sym (ap (λ p. get_elem? views p) e) ∙ k.2)) in
-      (port, w, set_at views port w v at, f (ap part same ∙ k.3)))
-      (λ n. (k.0, k.1, set_else views port k.0 w n ∙ k.2, k.3))
+      let same : v ≡ k.0 = some-injective v k.0 (sym at ∙ (sym (ap (λ p. get_elem? views p) e) ∙ k.1)) in
+      (w, ap (λ p. get_elem? (set views port w) p) e ∙ set_at views port w v at, f (ap part same ∙ k.2)))
+      (λ n. (k.0, set_else views port seat w n ∙ k.1, k.2))
 
   -- a step that leaves a view's part
   pub keeps : (views : List V) (port : ℕ) (v w : V) → get_elem? views port ≡ some v → part w ≡ part v → out w ≡ out v → OneFirst part out views → OneFirst part out (set views port w)
   keeps views port v w at same none h = record {
     seat = h.seat;
+    there = stays views port v w at (λ f. same ∙ f) h.seat h.there;
     one = each_set (λ j u. part u ≡ First → j ≡ h.seat) views port w (λ f. h.one port v at (sym same ∙ f)) (λ j u n e. h.one j u e);
     only = each_set (λ j u. part u ≢ First → out u ≡ 0) views port w (λ f. none ∙ h.only port v at (λ g. f (same ∙ g))) (λ j u n e. h.only j u e);
     count = let a = total_set (λ u. others (part u)) views port v w at in let b = total_set out views port v w at in let c : others (part w) ≡ others (part v) = ap others same in let d = h.count in omega arith;
@@ -74,6 +76,7 @@ module _ {V : Type 0} (part : V → Part) (out : V → ℕ) where
   pub splits : (views : List V) (port : ℕ) (v left right : V) → get_elem? views port ≡ some v → part v ≡ First → part left ≡ First → out left ≡ out v + 1 → part right ≡ Other → out right ≡ 0 → OneFirst part out views → OneFirst part out (set views port left ++ right ∷ [])
   splits views port v left right at is l more r none h = record {
     seat = h.seat;
+    there = let k = stays views port v left at (λ f. l) h.seat h.there in (k.0, at_longer (set views port left) (right ∷ []) h.seat k.0 k.1, k.2);
     one = λ j u e. ⊎_elim (λ (x : get_elem? (set views port left) j ≡ some u). each_set (λ i y. part y ≡ First → i ≡ h.seat) views port left (λ f. h.one port v at is) (λ i y n q. h.one i y q) j u x)
         (λ (x : right ≡ u) f. absurd (first-other (sym f ∙ ap part (sym x) ∙ r))) (at_snoc (set views port left) right u j e);
     only = each_snoc (λ u. part u ≢ First → out u ≡ 0) (set views port left) right (λ f. none) (each_set (λ j u. part u ≢ First → out u ≡ 0) views port left (λ f. absurd (f l)) (λ j u n e. h.only j u e));
@@ -93,6 +96,7 @@ module _ {V : Type 0} (part : V → Part) (out : V → ℕ) where
       → part both ≡ First → out both ≡ out v - 1 → part spent ≡ Spent → out spent ≡ 0 → OneFirst part out views → OneFirst part out (set (set views port both) other spent)
   joins views port other v u both spent at is apart there o b less s none h = record {
     seat = h.seat;
+    there = stays (set views port both) other u spent there (λ f. absurd (first-other (sym f ∙ o))) h.seat (stays views port v both at (λ f. b) h.seat h.there);
     one = each_set (λ j y. part y ≡ First → j ≡ h.seat) (set views port both) other spent (λ f. absurd (first-spent (sym f ∙ s)))
         (λ j y _ e. each_set (λ i y. part y ≡ First → i ≡ h.seat) views port both (λ f. h.one port v at is) (λ i y n q. h.one i y q) j y e);
     only = each_set (λ j y. part y ≢ First → out y ≡ 0) (set views port both) other spent (λ f. none)

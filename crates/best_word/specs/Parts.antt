@@ -1,4 +1,4 @@
--- Views that have a part: one is first, and the others are those that it counts as out.
+-- Views that have a part: exactly one is first, and the others are those that it counts as out.
 use Rattle.std.specs.Prelude.{◌≡◌, ◌≢◌, ℕ, List}
 use mathlib.Core.Option.{some}
 use lib.ListN.{get_elem?}
@@ -12,9 +12,10 @@ others First = 0
 others Other = 1
 others Spent = 0
 
--- one view at most is first, only it counts, and it counts the others
+-- the view of this seat is first and no other one is, only it counts, and it counts the others
 pub record OneFirst {V : Type 0} (part : V → Part) (out : V → ℕ) (views : List V) : Type 0 where
   pub seat : ℕ
+  pub there : (v : V) × (get_elem? views seat ≡ some v) × (part v ≡ First)
   pub one : (port : ℕ) (v : V) → get_elem? views port ≡ some v → part v ≡ First → port ≡ seat
   pub only : (port : ℕ) (v : V) → get_elem? views port ≡ some v → part v ≢ First → out v ≡ 0
   pub count : total (λ v. others (part v)) views ≡ total out views

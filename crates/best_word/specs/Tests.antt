@@ -9,7 +9,7 @@ use Rattle.search_api.specs.declared.verdict.Reason.{Reason}
 use Rattle.search_api.specs.declared.verdict.Verdict.{Verdict}
 use Rattle.search_api.specs.declared.verdict.Verdict.TheVariants as verdict
 use Rattle.search_api.specs.Meaning.{Meaning, IsLawful}
-use Rattle.best_word.specs.Ranks.{IsLegalRank}
+use Rattle.search_api.specs.Accounts.{IsLegalRank}
 
 -- a signal that has to be moved costs one, and a need nothing
 abbrev pub two_variables : List VarShape
@@ -44,7 +44,7 @@ free_lawful vars shape = record {
 
 -- the first moved, the second at its first place
 pub six_is_legal : IsLegalRank (free_meaning two_variables) 6
-six_is_legal = (omega arith, (1 ∷ 0 ∷ [], (omega arith, (omega arith, tt)), refl, refl))
+six_is_legal = record { choice = 1 ∷ 0 ∷ []; is_choice = (omega arith, (omega arith, tt)); is_legal = refl; rank_is = refl }
 
 pub one_is_legal : IsLegalRank (free_meaning two_variables) 1
-one_is_legal = (omega arith, (0 ∷ 1 ∷ [], (omega arith, (omega arith, tt)), refl, refl))
+one_is_legal = record { choice = 0 ∷ 1 ∷ []; is_choice = (omega arith, (omega arith, tt)); is_legal = refl; rank_is = refl }

@@ -36,13 +36,12 @@ module _ {J : Type 0} where
   KeptBy views r = (port : ℕ) × (v : View J) × (get_elem? views port ≡ some v) × Member r v.kept
 
   -- Each kept rank is legal; the word is the least rank that some view kept, and stands for no rank where none was kept;
-  -- each rank that was seen was kept; one view is first and counts those that are out; a view that was taken back has empty lists
+  -- each rank that was seen was kept; exactly one view is first, and it counts those that are out; a view that was taken back has empty lists
   pub record Least (legal : ℕ → Type 0) (n : ℕ) (views : List (View J)) : Type 0 where
     pub ranks : (port : ℕ) (v : View J) → get_elem? views port ≡ some v → (r : ℕ) → Member r v.kept → legal r
     pub low : (port : ℕ) (v : View J) → get_elem? views port ≡ some v → (r : ℕ) → Member r v.kept → n ≤ r
     pub stands : n < 2 ^ 63 → KeptBy views n
     pub seen : (port : ℕ) (v : View J) → get_elem? views port ≡ some v → (r : ℕ) → Member r v.saw → KeptBy views r
-    pub first : (port : ℕ) × (v : View J) × (get_elem? views port ≡ some v) × (v.part ≡ First)
     pub parts : OneFirst (λ (v : View J). v.part) (λ v. v.out) views
     pub spent : (port : ℕ) (v : View J) → get_elem? views port ≡ some v → v.part ≡ Spent → (v.kept ≡ []) × (v.saw ≡ [])
 

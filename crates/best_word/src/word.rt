@@ -2,7 +2,7 @@
 ghost use Rattle.std.specs.Prelude.{◌≡◌, ◌≢◌, ℕ, ◌<◌, ◌≤◌, [], IfOk, IfSome, IfNone, MatchOption};
 ghost use Rattle.best_word.specs.declared.part.Part.TheVariants.{First, Other, Spent};
 ghost use Rattle.res_base.specs.Lists.{Member};
-ghost use Rattle.best_word.specs.Ranks.{IsLegalRank};
+ghost use Rattle.search_api.specs.Accounts.{IsLegalRank};
 
 use crate::part::Part;
 use atomic_table::{Join, Play, Seat, Split, Table, TableRule};
@@ -34,7 +34,7 @@ pub struct LeastKept<J>(PhantomData<J>);
 
 impl<J: Judge> TableRule<(), View<J>, J> for LeastKept<J> {
     ghost use Rattle.best_word.specs.declared.part.Part.TheVariants.{First};
-    ghost use Rattle.best_word.specs.Ranks.{IsLegalRank};
+    ghost use Rattle.search_api.specs.Accounts.{IsLegalRank};
     ghost use Rattle.best_word.specs.Word.{newcomer, Holds};
 
     ghost holds = { λ j. Holds (IsLegalRank (J.meaning j)) };

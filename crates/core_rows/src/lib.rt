@@ -1,4 +1,4 @@
-//! Tests alone: lists of events and seats of a word, over a judge of two signals that compete for a pin.
+//! Tests alone: lists of events, and searches by several workers, over a judge of two signals that compete for a pin.
 #![tactic(auto)]
 
 #[cfg(test)]
@@ -6,4 +6,4 @@ mod events;
 #[cfg(test)]
 mod judge;
 #[cfg(test)]
-mod seats;
+mod searches;

@@ -6,7 +6,7 @@ use Rattle.crossbeam_deque.specs.Tasks.{Pushes, Takes, Pops, Finds, Learns, Fork
 use Rattle.best_word.specs.declared.part.Part.TheVariants.{First, Other, Spent}
 use Rattle.res_base.specs.Lists.{total}
 use Rattle.res_base.proofs.ListLemmas.{total_set, total_snoc, total_append, total_only}
-use Rattle.path_deque.proofs.PartLemmas.{each_set, each_snoc, begins as parts_begin, keeps as parts_keep, splits as parts_split, joins as parts_join, alone as parts_alone}
+use Rattle.best_word.proofs.PartLemmas.{each_set, each_snoc, begins as parts_begin, keeps as parts_keep, splits as parts_split, joins as parts_join, alone as parts_alone}
 use Rattle.path_deque.specs.declared.deque.Tally.{Tally}
 use Rattle.path_deque.specs.Tallies.{empty_tally, one_more_out, put_more, got_more, together, IsBalanced, IsDrained}
 

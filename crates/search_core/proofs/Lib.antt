@@ -4,3 +4,4 @@ mod EntryLemmas
 mod RankLemmas
 mod FitLemmas
 mod RunLemmas
+mod TurnLemmas

@@ -32,7 +32,7 @@ total_alike : {X : Type 0} (f : X → ℕ) (x : X) (n : ℕ) → f x ≡ 0 → t
 total_alike f x zero e = refl
 total_alike f x (suc n) e = omega (arith, e, total_alike f x n e)
 
-each_alike : {X : Type 0} (P : X → Type 0) (x : X) (n : ℕ) → P x → Each P (replicate n x)
+pub each_alike : {X : Type 0} (P : X → Type 0) (x : X) (n : ℕ) → P x → Each P (replicate n x)
 each_alike P x zero p = tt
 each_alike P x (suc n) p = (p, each_alike P x n p)
 

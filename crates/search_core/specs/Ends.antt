@@ -2,6 +2,7 @@
 use Rattle.std.specs.Prelude.{◌≡◌, ℕ, List, [], ◌∷◌, ◌++◌, Some, set, slice_get}
 use Rattle.box_split.specs.Boxes.{Run, low_of}
 use Rattle.box_split.specs.BoxIn.{box_in}
+use Rattle.search_api.specs.declared.verdict.Verdict.{Verdict}
 use Rattle.search_api.specs.Meaning.{Meaning}
 use Rattle.search_core.specs.declared.state.Hand.{Hand}
 use Rattle.search_core.specs.declared.state.Core.{Core}
@@ -34,6 +35,10 @@ IsEmptyAt deques w = (deque : List ℕ) → slice_get deques w ≡ Some deque �
 pub record IsHeld (m : Meaning) (c : Core) (w : ℕ) (h : Held) : Type 0 where
   pub holds : Holds m c w h.hand h.path (box_in m.shape h.b)
   pub low : h.low ≡ low_of m.shape (box_in m.shape h.b)
+
+-- the same, with the verdict on the box
+abbrev pub IsJudged : Meaning → Core → ℕ → Held × Verdict → Type 0
+IsJudged m c w x = IsHeld m c w x.0 × (m.verdict (box_in m.shape x.0.b) ≡ x.1)
 
 -- worker w has no path in hand
 abbrev pub HoldsNone : Meaning → Core → ℕ → Type 0

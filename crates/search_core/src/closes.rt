@@ -1,6 +1,7 @@
 //! The events on the box in a worker's hand.
-ghost use Rattle.std.specs.Prelude.{◌≡◌, ◌<◌, ◌++◌, ◌∷◌, [], length, Some, None, OnOk, OnErr};
+ghost use Rattle.std.specs.Prelude.{◌≡◌, ◌<◌, ◌++◌, ◌∷◌, [], length, Some, None, MatchOption, OnOk, OnErr};
 ghost use Rattle.search_api.specs.declared.outcome.Cause.TheVariants as cause;
+ghost use Rattle.search_core.specs.Ends.{HoldsNone, IsJudged};
 ghost use Rattle.search_core.specs.Events.{Answers, ClosesBad, Cuts, Keeps, Splits, with_closed, with_path};
 ghost use Rattle.search_core.specs.Fits.{Fits};
 
@@ -39,10 +40,10 @@ pub(crate) fn close_bad<J: Judge>(
     ensures scratch { J.fits j.now scratch.new }
     ensures answer { Answers (ClosesBad (J.meaning j.now) core.old w) core.old core.new result }
 {
-    let Some(held) = in_hand(core, j, w) else {
+    let Some((held, verdict)) = judged(core, j, scratch, w) else {
         return Ok(false);
     };
-    match j.judge(scratch, &held.b) {
+    match verdict {
         Verdict::Bad(reason) => {
             close(core, w, emptied(held.hand), held.path, Cause::Bad(reason))?;
             Ok(true)
@@ -63,10 +64,10 @@ pub(crate) fn keep<J: Judge>(
     ensures scratch { J.fits j.now scratch.new }
     ensures answer { Answers (Keeps (J.meaning j.now) core.old w) core.old core.new result }
 {
-    let Some(held) = in_hand(core, j, w) else {
+    let Some((held, verdict)) = judged(core, j, scratch, w) else {
         return Ok(false);
     };
-    match j.judge(scratch, &held.b) {
+    match verdict {
         Verdict::Legal => {
             close_leaf(core, w, held)?;
             Ok(true)
@@ -87,10 +88,10 @@ pub(crate) fn split<J: Judge>(
     ensures scratch { J.fits j.now scratch.new }
     ensures answer { Answers (Splits (J.meaning j.now) core.old w) core.old core.new result }
 {
-    let Some(held) = in_hand(core, j, w) else {
+    let Some((held, verdict)) = judged(core, j, scratch, w) else {
         return Ok(false);
     };
-    match j.judge(scratch, &held.b) {
+    match verdict {
         Verdict::Open => {
             put_last(&mut core.deques, w, 2 * held.path + 1)?;
             put_hand(
@@ -105,6 +106,18 @@ pub(crate) fn split<J: Judge>(
         }
         _ => Ok(false),
     }
+}
+
+/// What a worker has in hand, and the verdict on its box. None where there is no such worker, or it has no path.
+fn judged<J: Judge>(core: &Core, j: &J, scratch: &mut J::Scratch, w: u32) -> Option<(Held, Verdict)>
+    requires core { Fits (J.meaning j.now) core.now }
+    requires scratch { J.fits j.now scratch.old }
+    ensures scratch { J.fits j.now scratch.new }
+    ensures judged { MatchOption result (HoldsNone (J.meaning j.now) core.now w) (IsJudged (J.meaning j.now) core.now w) }
+{
+    let held = in_hand(core, j, w)?;
+    let verdict = j.judge(scratch, &held.b);
+    Some((held, verdict))
 }
 
 /// A hand without its path.

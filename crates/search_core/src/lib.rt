@@ -13,6 +13,7 @@ mod step;
 pub use event::Event;
 pub use laws::{
     each_box_is_claimed_once, each_cut_uses_a_kept_rank, every_run_fits,
-    finished_core_is_accounted, step_has_one_end,
+    finished_core_is_accounted, own_boxes_stay_in_order, step_has_one_end,
+    thief_takes_the_last_box,
 };
 pub use state::{Core, Hand};

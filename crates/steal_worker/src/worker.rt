@@ -1,5 +1,5 @@
 //! One worker among others.
-ghost use Rattle.std.specs.Prelude.{◌≡◌, ℕ, ◌+◌, None, [], ◌∷◌, option_to_list, IfOk, IfNone, MatchOption};
+ghost use Rattle.std.specs.Prelude.{◌≡◌, ℕ, ◌+◌, None, [], ◌∷◌, option_to_list, IfOk, OnOk, IfNone, MatchOption};
 ghost use Rattle.res_base.specs.Lists.{Each, total};
 ghost use Rattle.best_word.specs.declared.part.Part.TheVariants.{First};
 ghost use Rattle.best_word.specs.Handles.{IsSeatOf, best_view, judge_of};
@@ -58,11 +58,12 @@ pub fn work<R: Wait, J: Judge, G: Gate>(
     gate: &G,
     word: &BestWord<J>,
     stop: &Stop,
-    mut job: Job<J>,
-) -> Result<Job<J>, OutOfMemory>
+    job: &mut Job<J>,
+) -> Result<(), OutOfMemory>
     requires word { judge_of word.now ≡ j.now }
-    requires ready { IsReady (J.meaning j.now) (J.fits j.now) word.now job }
-    ensures { IfOk result (λ done. IsDone (J.meaning j.now) word.now job done) }
+    requires ready { IsReady (J.meaning j.now) (J.fits j.now) word.now job.old }
+    ensures same { IsSameJob job.old job.new }
+    ensures done { OnOk result (IsDone (J.meaning j.now) word.now job.old job.new) }
 {
     let backoff = Backoff::new();
     let mut hand = None;
@@ -72,14 +73,14 @@ pub fn work<R: Wait, J: Judge, G: Gate>(
         }
         match hand {
             Some(place) => {
-                hand = step(j, gate, word, stop, &mut job, place)?;
+                hand = step(j, gate, word, stop, job, place)?;
             }
             None => {
-                hand = take(j, &mut job);
+                hand = take(j, job);
                 if hand.is_some() {
                     backoff.reset();
                 } else if stop.all_closed() {
-                    return Ok(job);
+                    return Ok(());
                 } else {
                     backoff.snooze();
                 }

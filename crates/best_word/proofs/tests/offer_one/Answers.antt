@@ -1,6 +1,6 @@
 use Rattle.std.proofs.Common.{List, subst, sym}
 use Rattle.choice_rank.specs.declared.variable.VarShape.{VarShape}
-use Rattle.best_word.specs.Ranks.{IsLegalRank}
+use Rattle.search_api.specs.Accounts.{IsLegalRank}
 use Rattle.best_word.specs.Tests.{free_meaning, one_is_legal}
 use Rattle.best_word.proofs.tests.offer_one.Goals as goal
 

@@ -3,14 +3,14 @@ use Rattle.std.specs.Prelude.{option_to_list}
 use Rattle.std.proofs.lemmas.Result.{IfOk-weaker}
 use Rattle.best_word.specs.Handles.{best_view}
 use Rattle.best_word.specs.Word.{kept_more}
-use Rattle.best_word.specs.Ranks.{IsLegalRank}
 use Rattle.box_split.specs.Paths.{lower}
 use Rattle.box_split.specs.BoxIn.{box_in}
 use Rattle.box_split.proofs.PathLemmas.{path_box, lower_path}
 use Rattle.search_api.specs.declared.outcome.Cause.TheVariants as cause
+use Rattle.search_api.specs.Accounts.{IsLegalRank}
 use Rattle.steal_worker.specs.Walks.{held_places, known, IsAtMost}
 use Rattle.steal_worker.proofs.FlowActs.{flow_close, flow_halve, flows_same}
-use Rattle.steal_worker.proofs.LegalLemmas.{legal_rank, offered_rank}
+use Rattle.steal_worker.proofs.LegalLemmas.{legal_rank}
 use Rattle.steal_worker.proofs.WalkActs.{entry_of, room, walks_look, walks_cut, walks_close, walks_leaf, walks_halve, walks_same}
 use Rattle.steal_worker.proofs.walker.settle.Goals as goal
 
@@ -93,7 +93,7 @@ keep-requires-clause-legal g c κs within =
     let box = box_in m.shape p.b in
     let law = g.met.J.Judge.lawful c.args.j.now in
     let is_box = path_box m.shape p.path box law.is_shape.positions c.requires.walks.hands.0.0 in
-    subst (λ x. IsLegalRank (g.J.Judge.meaning x) c.place_low-low.result) (sym c.requires.word.0) (offered_rank m law box is_box (sym c.in-Legal.ensures.verdict) c.place_low-low.result c.place_low-low.ensures)
+    subst (λ x. IsLegalRank (g.J.Judge.meaning x) c.place_low-low.result) (sym c.requires.word.0) (legal_rank m law box is_box (sym c.in-Legal.ensures.verdict) c.place_low-low.result c.place_low-low.ensures)
 
 pub halve-requires-clause-open : goal.halve-requires-clause-open
 halve-requires-clause-open g c κs within =

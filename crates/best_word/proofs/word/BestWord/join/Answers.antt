@@ -1,5 +1,5 @@
 use Rattle.std.proofs.Common.{ap, ◌∙◌, arith}
-use Rattle.best_word.specs.Ranks.{IsLegalRank}
+use Rattle.search_api.specs.Accounts.{IsLegalRank}
 use Rattle.best_word.proofs.Moves.{joins}
 use Rattle.best_word.proofs.word.BestWord.join.Goals as goal
 

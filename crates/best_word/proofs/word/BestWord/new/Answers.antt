@@ -1,5 +1,5 @@
 use Rattle.std.proofs.Common.{refl, arith}
-use Rattle.best_word.specs.Ranks.{IsLegalRank}
+use Rattle.search_api.specs.Accounts.{IsLegalRank}
 use Rattle.best_word.proofs.Moves.{opens}
 use Rattle.best_word.proofs.word.BestWord.new.Goals as goal
 
