@@ -1,0 +1,6 @@
+mod CrewLemmas
+mod EndLemmas
+mod HandLemmas
+mod JoinedLemmas
+mod RowLemmas
+mod WholeLemmas
