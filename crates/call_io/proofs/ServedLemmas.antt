@@ -5,10 +5,10 @@ use Rattle.std.proofs.lemmas.Bool.Decides.{nat_tests}
 use Rattle.answers.specs.Said.{Says, number_of}
 use Rattle.answers.specs.declared.answer.Answer.{Answer}
 use Rattle.answers.specs.declared.answer.Status.{Status}
-use Rattle.answers.specs.declared.answer.Status.TheVariants.{ReadFailed, TooLong, WriteFailed, OutOfMemory, NotBuilt}
-use Rattle.call_io.specs.Gathered.{AllRead, AreSeen, IsClear, IsOfBytes, Stopped, Unread, failed, long}
+use Rattle.answers.specs.declared.answer.Status.TheVariants.{Done, NoChoice, Usage, ReadFailed, TooLong, TableRefused, ProjectRefused, TooWide, WriteFailed, OutOfMemory, ProofRefused, NotBuilt, RequestRefused}
+use Rattle.call_io.specs.Gathered.{AllRead, AreSeen, IsClear, IsOfInputs, Stopped, Unread, failed, long}
 use Rattle.call_io.specs.Inputs.{Files, Input, Reads, Wrote, first_long, inputs_told, with_input}
-use Rattle.call_io.specs.Ran.{Answers, Ended, IsOwn, IsWritten, Ran, Served, WroteText, answered as answered_by, part, starved, whole}
+use Rattle.call_io.specs.Ran.{Answers, Ended, NoneFailed, IsOwn, IsWritten, Ran, Served, WroteText, answered as answered_by, part, starved, whole}
 use Rattle.res_base.specs.Lists.{Member}
 use Rattle.res_base.proofs.ListLemmas.{member_right}
 use Rattle.res_io.specs.Causes.{Rose}
@@ -101,7 +101,7 @@ refused names owed before after a law s = by_cause s.unread
 
 -- what is owed for the bytes of inputs that were read
 pub answered_for : (names : List (List ℕ)) (owed : List Input → Answer → Type 0) (before after : Reads) (read : List (List ℕ)) (a : Answer)
-    → AllRead before.files names read → IsClear names after → IsOfBytes a.status
+    → AllRead before.files names read → IsClear names after → IsOfInputs a.status
     → ((inputs : List Input) → AreSeen read inputs → owed inputs a) → Served names owed before after a
 answered_for names owed before after read a all clear of law =
     record {
@@ -124,14 +124,59 @@ ended names owed before after out_before out_after status (Err e) served written
 
 -- where no count rose, the call answered what is due, or had no memory
 pub complete : (names : List (List ℕ)) (owed : List Input → Answer → Type 0) (before after : Reads) (out_before out_after : Wrote) (number : ℕ)
-    → ((name : List ℕ) → Rose (before.faults name) (after.faults name) → ⊥) → (Rose out_before.faults out_after.faults → ⊥)
+    → NoneFailed names before after out_before out_after
     → Ran names owed before after out_before out_after number → Answers before.files names owed number
-complete names owed before after out_before out_after number no_read no_write (status, is, how) = by_end how
+complete names owed before after out_before out_after number none (status, is, how) = by_end how
   where
     by_text : (a : Answer) → Served names owed before after a → WroteText a out_before out_after status → Answers before.files names owed number
-    by_text a served (whole e appended) = inr (a, is ∙ ap number_of e, served.due (λ failed. let f = served.failed failed in no_read f.0 f.2.rose))
-    by_text a served (part n e rose appended) = absurd (no_write rose)
+    by_text a served (whole e appended) = inr (a, is ∙ ap number_of e, served.due (λ failed. let f = served.failed failed in none.reads f.0 f.1 f.2.rose))
+    by_text a served (part n e rose appended) = absurd (none.writes rose)
 
     by_end : Ended names owed before after out_before out_after status → Answers before.files names owed number
     by_end (answered_by a served wrote) = by_text a served wrote
     by_end (starved e nothing) = inl (is ∙ ap number_of e)
+
+-- ---- status 2
+
+-- an input that was not read is no fault of the words
+pub stopped_is_no_usage : (names : List (List ℕ)) (before after : Reads) (a : Answer) → Stopped names before after a → a.status ≢ Usage
+stopped_is_no_usage names before after a s = by_cause s.unread
+  where
+    by_cause : Unread before after s.name a → a.status ≢ Usage
+    by_cause (failed rose within says) = λ e. let k : ReadFailed ≡ Usage = sym (ap (λ (x : Answer). x.status) says) ∙ e in absurd cc
+    by_cause (long longer over says) = λ e. let k : TooLong ≡ Usage = sym (ap (λ (x : Answer). x.status) says) ∙ e in absurd cc
+
+-- an answer that does not blame the words is written as such
+pub written_is_no_usage : {E : Type 0} (r : Result Answer E) (out_before out_after : Wrote) (status : Status) → IfOk r (λ a. a.status ≢ Usage) → IsWritten r out_before out_after status → status ≢ Usage
+written_is_no_usage (Ok a) ob oa status h (whole e appended) = λ q. h (sym e ∙ q)
+written_is_no_usage (Ok a) ob oa status h (part n e rose appended) = λ q. let k : WriteFailed ≡ Usage = sym e ∙ q in absurd cc
+written_is_no_usage (Err x) ob oa status h written = λ q. let k : OutOfMemory ≡ Usage = sym written.0 ∙ q in absurd cc
+
+-- what has the number 2
+pub two_is_usage : (status : Status) → number_of status ≡ 2 → status ≡ Usage
+two_is_usage Done e = absurd cc
+two_is_usage NoChoice e = absurd cc
+two_is_usage Usage e = refl
+two_is_usage ReadFailed e = absurd cc
+two_is_usage TooLong e = absurd cc
+two_is_usage TableRefused e = absurd cc
+two_is_usage ProjectRefused e = absurd cc
+two_is_usage TooWide e = absurd cc
+two_is_usage WriteFailed e = absurd cc
+two_is_usage OutOfMemory e = absurd cc
+two_is_usage ProofRefused e = absurd cc
+two_is_usage NotBuilt e = absurd cc
+two_is_usage RequestRefused e = absurd cc
+
+-- where an answer of status 2 is due and no input is asked for, a call answers 2, or 8 or 9
+pub ends_as_usage : (owed : List Input → Answer → Type 0) (before after : Reads) (out_before out_after : Wrote) (status : Status) → ((a : Answer) → owed [] a → a.status ≡ Usage)
+    → Ended [] owed before after out_before out_after status → (number_of status ≡ 2) ⊎ ((number_of status ≡ 8) ⊎ (number_of status ≡ 9))
+ends_as_usage owed before after ob oa status law (starved e nothing) = inr (inr (ap number_of e))
+ends_as_usage owed before after ob oa status law (answered_by a served wrote) = by_text wrote
+  where
+    no_fault : a.status ≢ ReadFailed
+    no_fault = λ e. absurd (served.failed e).1
+
+    by_text : WroteText a ob oa status → (number_of status ≡ 2) ⊎ ((number_of status ≡ 8) ⊎ (number_of status ≡ 9))
+    by_text (whole e appended) = inl (ap number_of (e ∙ law a (served.due no_fault)))
+    by_text (part n e rose appended) = inr (inl (ap number_of e))

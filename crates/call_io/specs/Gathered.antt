@@ -3,7 +3,7 @@ use Rattle.std.specs.Prelude.{◌≡◌, ◌≢◌, ◌≤◌, ◌⊎◌, ℕ, L
 use Rattle.answers.specs.Said.{Says}
 use Rattle.answers.specs.declared.answer.Answer.{Answer}
 use Rattle.answers.specs.declared.answer.Status.{Status}
-use Rattle.answers.specs.declared.answer.Status.TheVariants.{ReadFailed, TooLong}
+use Rattle.answers.specs.declared.answer.Status.TheVariants.{ReadFailed, TooLong, Usage}
 use Rattle.call_io.specs.Inputs.{Files, Input, Reads, first_long}
 use Rattle.call_io.specs.Ran.{IsOwn}
 use Rattle.call_io.specs.declared.inputs.Taken.{Taken}
@@ -57,8 +57,13 @@ pub record AreSeen (read : List (List ℕ)) (inputs : List Input) : Type 0 where
   pub bytes : map (λ (i : Input). i.bytes) inputs ≡ read
   pub none_long : first_long inputs ≡ None
 
--- a status that the bytes of inputs have: neither that one was not read nor that the answer was not written
-pub record IsOfBytes (status : Status) : Type 0 where
+-- a status of an answer to inputs that were read: neither that one was not read nor that the answer was not written
+pub record IsOfInputs (status : Status) : Type 0 where
   pub own : IsOwn status
   pub no_read_fault : status ≢ ReadFailed
   pub no_length : status ≢ TooLong
+
+-- such a status that does not blame the words
+pub record IsOfBytes (status : Status) : Type 0 where
+  pub of_inputs : IsOfInputs status
+  pub no_usage : status ≢ Usage

@@ -1,6 +1,6 @@
 -- What a call has done that reads inputs of these names: the text that is due where the inputs tell their bytes, and the
 -- cause of each other answer.
-use Rattle.std.specs.Prelude.{◌≡◌, ◌≢◌, ◌⊎◌, ℕ, List, [], ◌∷◌, ◌++◌, Option, IfSome, Result, Ok, Err, codes, take}
+use Rattle.std.specs.Prelude.{◌≡◌, ◌≢◌, ◌⊎◌, ℕ, List, [], ◌∷◌, ◌++◌, Option, IfSome, Result, Ok, Err, codes, take, is_some}
 use Rattle.std.specs.Io.KnownBytes.{Appends}
 use Rattle.answers.specs.Said.{number_of}
 use Rattle.answers.specs.declared.answer.Answer.{Answer}
@@ -45,21 +45,25 @@ pub record Served (names : List (List ℕ)) (owed : List Input → Answer → Ty
   pub too_long : a.status ≡ TooLong → IsTooLong names after a.text
   pub told : a.status ≢ NotBuilt → IsToldIfLong names after a.status
 
+-- the text was appended where written bytes are told, and they are told after it exactly where they were before
+abbrev pub Writes : Wrote → Wrote → List ℕ → Type 0
+Writes before after text = Appends before.bytes after.bytes text × (is_some after.bytes ≡ is_some before.bytes)
+
 -- the text of an answer was written whole, and the call ended with its status; or a prefix of it, since the sink failed
 pub data WroteText (a : Answer) (out_before out_after : Wrote) (status : Status) : Type 0 where
-  whole : status ≡ a.status → Appends out_before.bytes out_after.bytes a.text → WroteText a out_before out_after status
-  part : (n : ℕ) → status ≡ WriteFailed → Rose out_before.faults out_after.faults → Appends out_before.bytes out_after.bytes (take n a.text) → WroteText a out_before out_after status
+  whole : status ≡ a.status → Writes out_before out_after a.text → WroteText a out_before out_after status
+  part : (n : ℕ) → status ≡ WriteFailed → Rose out_before.faults out_after.faults → Writes out_before out_after (take n a.text) → WroteText a out_before out_after status
 
--- an answer was written; where there is none for lack of memory, nothing was
+-- an answer was written; where there is none for lack of memory, nothing was, and no write failed
 abbrev pub IsWritten : {E : Type 0} → Result Answer E → Wrote → Wrote → Status → Type 0
 IsWritten (Ok a) out_before out_after status = WroteText a out_before out_after status
-IsWritten (Err e) out_before out_after status = (status ≡ OutOfMemory) × (out_after.bytes ≡ out_before.bytes)
+IsWritten (Err e) out_before out_after status = (status ≡ OutOfMemory) × (out_after ≡ out_before)
 
 -- what a call has done that ended with this status: it wrote an answer that is due, or that says which input failed or is
--- too long; or a prefix of such a text, and the sink failed; or nothing, for lack of memory
+-- too long; or a prefix of such a text, and the sink failed; or nothing, for lack of memory, and no write failed
 pub data Ended (names : List (List ℕ)) (owed : List Input → Answer → Type 0) (before after : Reads) (out_before out_after : Wrote) (status : Status) : Type 0 where
   answered : (a : Answer) → Served names owed before after a → WroteText a out_before out_after status → Ended names owed before after out_before out_after status
-  starved : status ≡ OutOfMemory → out_after.bytes ≡ out_before.bytes → Ended names owed before after out_before out_after status
+  starved : status ≡ OutOfMemory → out_after ≡ out_before → Ended names owed before after out_before out_after status
 
 -- the same of the number of the status
 abbrev pub Ran : List (List ℕ) → (List Input → Answer → Type 0) → Reads → Reads → Wrote → Wrote → ℕ → Type 0
@@ -68,3 +72,8 @@ Ran names owed before after out_before out_after number = (status : Status) × (
 -- where nothing of the outside fails, a call ends with the status of the answer that is due, or with 9 for lack of memory
 abbrev pub Answers : Files → List (List ℕ) → (List Input → Answer → Type 0) → ℕ → Type 0
 Answers files names owed number = (number ≡ 9) ⊎ ((a : Answer) × (number ≡ number_of a.status) × TellsDue files names owed a)
+
+-- no count of these names rose in a call, nor the sink's
+pub record NoneFailed (names : List (List ℕ)) (before after : Reads) (out_before out_after : Wrote) : Type 0 where
+  pub reads : (name : List ℕ) → Member name names → Rose (before.faults name) (after.faults name) → ⊥
+  pub writes : Rose out_before.faults out_after.faults → ⊥

@@ -1,5 +1,5 @@
 -- Inputs in memory, as their user sees them, and which of their calls fail.
-use Rattle.std.specs.Prelude.{ℕ, ◌≡◌, Bool, ◌||◌, is_none, List}
+use Rattle.std.specs.Prelude.{ℕ, ◌≡◌, ◌≢◌, Bool, ◌||◌, is_none, List}
 use Rattle.res_io.specs.Calls.{one_more, is_listed}
 use Rattle.res_io.specs.Files.{place_in, count_at}
 use Rattle.res_io.specs.Shelf.{ShelfState}
@@ -17,6 +17,15 @@ pub record InputsState : Type 0 where
 -- how often a name has failed
 abbrev pub faults_of : InputsState → List ℕ → ℕ
 faults_of s name = count_at s.counts s.others (place_in s.shelf.files name)
+
+-- no count changed
+abbrev pub NoneCounted : InputsState → InputsState → Type 0
+NoneCounted old new = (name : List ℕ) → faults_of new name ≡ faults_of old name
+
+-- one fault more was counted: of the file of this name, or, where no file has it, of all other names together
+pub record OneCounted (name : List ℕ) (old new : InputsState) : Type 0 where
+  pub here : (other : List ℕ) → place_in old.shelf.files other ≡ place_in old.shelf.files name → faults_of new other ≡ one_more (faults_of old other)
+  pub elsewhere : (other : List ℕ) → place_in old.shelf.files other ≢ place_in old.shelf.files name → faults_of new other ≡ faults_of old other
 
 -- the next call is listed
 abbrev pub is_due : InputsState → Bool

@@ -1,4 +1,8 @@
-ghost use Rattle.std.specs.Prelude.{◌≡◌, None, IsSome, List, ℕ};
+ghost use Rattle.std.specs.Prelude.{◌≡◌, ◌≤◌, ◌<◌, ◌+◌, ◌-◌, ◌^◌, min, None, Some, IsSome, List, ℕ, IfOk, IfSome, OnOk, OnErr, IsErrOf, length, take};
+ghost use Rattle.std.specs.Io.KnownBytes.{Consumes, IsAtEnd, WriteAppends};
+ghost use Rattle.res_io.specs.Bytes.{IsWhole, file_of};
+ghost use Rattle.res_io.specs.Calls.{one_more};
+ghost use Rattle.res_io.specs.Causes.{Rose};
 
 use crate::inputs::{BeginFault, Inputs};
 use crate::sink::{Failed, Sink};
@@ -51,7 +55,18 @@ impl<R: Files> Inputs for FileInputs<'_, R> {
 
     ghost faults = { λ s _. s.faults };
 
-    fn begin(&mut self, alloc: Global, name: &str) -> Result<(), BeginFault> {
+    fn begin(&mut self, alloc: Global, name: &str) -> Result<(), BeginFault>
+        ensures begun { OnOk result ((self.new.name ≡ Some name.now) × (self.new.taken ≡ 0)) }
+        ensures closed { OnErr result (self.new.name ≡ None) }
+        ensures bytes { OnOk result (IsWhole (file_of None name.now) None) }
+        ensures later { self.old.faults ≤ self.new.faults }
+        ensures failed { IsErrOf result BeginFault.Failed → Rose self.old.faults self.new.faults }
+
+        // A fault is counted where the file was not opened, and nowhere else.
+        ensures none { OnOk result (self.new.faults ≡ self.old.faults) }
+        ensures memory { IsErrOf result BeginFault.Memory → self.new.faults ≡ self.old.faults }
+        ensures one { IsErrOf result BeginFault.Failed → self.new.faults ≡ one_more self.old.faults }
+    {
         self.name = None;
         self.file = None;
         let Ok(copy) = Text::copy(alloc, name) else {
@@ -71,7 +86,19 @@ impl<R: Files> Inputs for FileInputs<'_, R> {
         }
     }
 
-    fn take(&mut self, buf: &mut [u8]) -> Result<usize, Failed> {
+    fn take(&mut self, buf: &mut [u8]) -> Result<usize, Failed>
+        requires is_open { IsSome self.old.name }
+        ensures current { self.new.name ≡ self.old.name }
+        ensures count { IfOk result (λ n. (n ≤ length buf.new) × (self.new.taken ≡ min (self.old.taken + n) (2 ^ 64 - 1))) }
+        ensures bytes { IfOk result (λ n. Consumes None None (take n buf.new) × (n ≡ 0 → IsAtEnd None)) }
+        ensures stays { OnErr result (self.new.taken ≡ self.old.taken) }
+        ensures later { self.old.faults ≤ self.new.faults }
+        ensures failed { OnErr result (IfSome self.old.name (λ name. Rose self.old.faults self.new.faults)) }
+
+        // A fault is counted where the file was not read, and nowhere else.
+        ensures none { OnOk result (self.new.faults ≡ self.old.faults) }
+        ensures one { OnErr result (self.new.faults ≡ one_more self.old.faults) }
+    {
         let Some(file) = &mut self.file else {
             unreachable!();
         };
@@ -110,7 +137,17 @@ impl<R: Print> Sink for OutSink<'_, R> {
 
     ghost faults = { λ s. s.faults };
 
-    fn put(&mut self, piece: &[u8]) -> Result<usize, Failed> {
+    fn put(&mut self, piece: &[u8]) -> Result<usize, Failed>
+        requires { 0 < length piece.now }
+        ensures some { IfOk result (λ n. (0 < n) × (n ≤ length piece.now)) }
+        ensures bytes { WriteAppends None None result piece.now }
+        ensures later { self.old.faults ≤ self.new.faults }
+        ensures failed { OnErr result (Rose self.old.faults self.new.faults) }
+
+        // A fault is counted where nothing was written, and nowhere else.
+        ensures none { OnOk result (self.new.faults ≡ self.old.faults) }
+        ensures one { OnErr result (self.new.faults ≡ one_more self.old.faults) }
+    {
         match self.rt.write_some(piece) {
             Ok(count) if 0 < count => Ok(count),
             _ => {

@@ -1,4 +1,4 @@
-ghost use Rattle.std.specs.Prelude.{◌≡◌, Option, Some, None, [], ℕ, ◌<◌, ◌≤◌, ◌+◌, ◌-◌, ◌^◌, ◌↔◌, true, false, min, take, drop, length, vec_len, slice_index, unwrap_or, IfOk, IfSome, OnOk, OnErr, IsErr, IsErrOf, IsSome, IsTrue};
+ghost use Rattle.std.specs.Prelude.{◌≡◌, ◌≢◌, Option, Some, None, [], ℕ, ◌<◌, ◌≤◌, ◌+◌, ◌-◌, ◌^◌, ◌↔◌, true, false, min, take, drop, length, vec_len, slice_index, unwrap_or, IfOk, IfSome, OnOk, OnErr, IsErr, IsErrOf, IsSome, IsTrue};
 ghost use Rattle.res_io.specs.Calls.{one_more, is_listed};
 ghost use Rattle.res_io.specs.Causes.{Rose, NoneFell};
 ghost use Rattle.res_io.specs.Files.{bytes_in, count_at};
@@ -51,6 +51,8 @@ fn raise(counts: &mut Vec<u64>, others: &mut u64, place: Option<usize>)
     requires { IfSome place (λ i. i < vec_len counts.old) }
     ensures rose { Rose (count_at counts.old.items others.old place) (count_at counts.new.items others.new place) }
     ensures later { (p : Option ℕ) → count_at counts.old.items others.old p ≤ count_at counts.new.items others.new p }
+    ensures one { (p : Option ℕ) → p ≡ place → count_at counts.new.items others.new p ≡ one_more (count_at counts.old.items others.old p) }
+    ensures rest { (p : Option ℕ) → p ≢ place → count_at counts.new.items others.new p ≡ count_at counts.old.items others.old p }
     ensures len { vec_len counts.new ≡ vec_len counts.old }
 {
     match place {
@@ -96,7 +98,7 @@ impl MemInputs {
 impl Inputs for MemInputs {
     ghost use Rattle.std.specs.Prelude.{Some};
     ghost use Rattle.res_io.specs.Files.{bytes_in};
-    ghost use Rattle.res_io.specs.MemInputs.{faults_of, is_due, begin_fails, IsOneCallOn};
+    ghost use Rattle.res_io.specs.MemInputs.{faults_of, is_due, begin_fails, IsOneCallOn, NoneCounted, OneCounted};
 
     ghost files = { λ s. Some (bytes_in s.shelf.files) };
 
@@ -115,9 +117,12 @@ impl Inputs for MemInputs {
         ensures failed { IsErrOf result BeginFault.Failed
             → Rose (faults_of self.old name.now) (faults_of self.new name.now) }
 
-        // Want of memory aside, it fails exactly at a listed call and at an unknown name.
+        // Want of memory aside, it fails exactly at a listed call and at an unknown name, and counts that fault alone.
         ensures fails { IsErrOf result BeginFault.Failed → begin_fails self.old name.now ≡ true }
         ensures opens { OnOk result (begin_fails self.old name.now ≡ false) }
+        ensures none { OnOk result (NoneCounted self.old self.new) }
+        ensures memory { IsErrOf result BeginFault.Memory → NoneCounted self.old self.new }
+        ensures one { IsErrOf result BeginFault.Failed → OneCounted name.now self.old self.new }
         ensures calls { IsOneCallOn self.old self.new }
     {
         let fails = is_to_fail(&mut self.calls, self.failing.as_slice());
@@ -149,8 +154,10 @@ impl Inputs for MemInputs {
         ensures failed { OnErr result (IfSome self.old.shelf.name
             (λ name. Rose (faults_of self.old name) (faults_of self.new name))) }
 
-        // It fails exactly at a listed call, and gives as much as the piece, the buffer and the rest allow.
+        // It fails exactly at a listed call, and counts that fault alone; it gives as much as the piece, the buffer and the rest allow.
         ensures fails { IsErr result ↔ IsTrue (is_due self.old) }
+        ensures none { OnOk result (NoneCounted self.old self.new) }
+        ensures one { OnErr result (IfSome self.old.shelf.name (λ name. OneCounted name self.old self.new)) }
         ensures count { IfOk result (λ n. n ≡ min (min self.old.piece (length buf.old)) (length self.old.shelf.rest)) }
         ensures calls { IsOneCallOn self.old self.new }
     {

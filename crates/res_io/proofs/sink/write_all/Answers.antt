@@ -1,4 +1,4 @@
-use Rattle.std.proofs.Common.{◌≡◌, ◌-◌, length, take, drop, arith, length-drop, take-add}
+use Rattle.std.proofs.Common.{◌≡◌, ◌∙◌, ◌-◌, length, take, drop, arith, length-drop, take-add}
 use Rattle.std.proofs.lemmas.List.{take_all}
 use Rattle.res_io.proofs.Steps.{appends_more}
 use Rattle.res_io.proofs.sink.write_all.Goals as goal
@@ -11,5 +11,6 @@ loop-at-preserved g c =
     record {
       within = omega (arith, c.in-Ok.ensures.some, length-drop at text);
       front = rw take-add (appends_more _ _ _ _ _ c.loop-at.invariant.front (rw piece at c.in-Ok.ensures.bytes));
+      told = c.in-Ok.ensures.told ∙ c.loop-at.invariant.told;
       later = omega (arith, c.in-Ok.ensures.later);
     }
