@@ -1,5 +1,5 @@
 -- The status and the text that are due for a problem.
-use Rattle.std.specs.Prelude.{◌≡◌, ℕ, List, [], ◌++◌, Bool, true, false, Option, Some, None, Ok, Err, codes, decimal, map}
+use Rattle.std.specs.Prelude.{◌≡◌, ℕ, List, [], ◌++◌, Bool, true, false, Option, Some, None, Result, Ok, Err, codes, decimal, map}
 use Rattle.choice_rank.specs.Choices.{IsNarrow, IsFirstWide, rank_of}
 use Rattle.choice_rank.specs.Least.{IsLeast, NoneLegal}
 use Rattle.box_rules.specs.Judged.{whole_meaning}
@@ -14,9 +14,12 @@ use Rattle.refutation.specs.Forms.{form_of}
 use Rattle.refutation.specs.Reading.{proof_of}
 use Rattle.refutation.specs.Trees.{IsAccepted}
 use Rattle.refute_check.specs.Faults.{fault_at}
+use Rattle.c_print.specs.Reading.{Reads}
+use Rattle.c_print.specs.Text.{c_text_of}
 use Rattle.reg_machine.specs.Legal.{IsLegal}
 use Rattle.reg_machine.specs.Reset.{reset_of}
 use Rattle.reg_machine.specs.Run.{Sound}
+use Rattle.reg_machine.specs.declared.op.Op.{Op}
 use Rattle.report.specs.Cases.{case_text}
 use Rattle.report.specs.Placed.{placement_text}
 use Rattle.report.specs.Reported.{report_text}
@@ -38,9 +41,9 @@ pub data OfPins (p : ProblemParts) (a : Answer) : Type 0 where
   unplaced : NoneLegal p.shape (meets p) → Says a NoChoice (codes "no choice") → OfPins p a
 
 -- what stands behind the report: the refutation of all that is below the choice, where it is asked for
-abbrev pub IsMore : Bool → Meaning → Option ℕ → List ℕ → Type 0
-IsMore false m bound more = more ≡ []
-IsMore true m bound more = IsRefutation m bound more
+abbrev pub IsMore : Bool → Meaning → Option ℕ → List ℕ → List ℕ → Type 0
+IsMore false m bound report more = more ≡ []
+IsMore true m bound report more = IsRefutation m bound report more
 
 -- the four lines of the least choice of a made case, or that there is none
 pub data OfCase (number : ℕ) (p : ProblemParts) (a : Answer) : Type 0 where
@@ -53,11 +56,20 @@ abbrev pub AreSound : ProblemParts → List ℕ → Type 0
 AreSound p c =
     Sound (IsLegal p.tables (target_of (setting_of p c))) (IsRight (setting_of p c)) (writes_of (setting_of p c)) (reset_of p.tables (target_of (setting_of p c)))
 
+-- the C text of accesses is read as these accesses, and as nothing else
+pub record AreReadBack (ops : List Op) : Type 0 where
+  pub read : Reads (c_text_of ops) (Ok ops)
+  pub alone : (other : Result (List Op) ℕ) → Reads (c_text_of ops) other → other ≡ Ok ops
+
+-- the report of a choice: its rank, its placement, its clocks, and the C text of its accesses
+abbrev pub report_of : ProblemParts → List ℕ → List ℕ
+report_of p c = report_text p c (writes_of (setting_of p c))
+
 -- the report of the least choice, or the refutation of all choices
 pub data OfWhole (proof : Bool) (p : ProblemParts) (a : Answer) : Type 0 where
-  solved : (c more : List ℕ) → IsLeast p.shape (meets p) c → AreSound p c → IsMore proof (whole_meaning p) (Some (rank_of p.shape c)) more
-      → a ≡ answered Done (report_text p c (writes_of (setting_of p c)) ++ more) → OfWhole proof p a
-  refuted : (text : List ℕ) → NoneLegal p.shape (meets p) → IsRefutation (whole_meaning p) None text → a ≡ answered NoChoice text → OfWhole proof p a
+  solved : (c more : List ℕ) → IsLeast p.shape (meets p) c → AreSound p c → AreReadBack (writes_of (setting_of p c))
+      → IsMore proof (whole_meaning p) (Some (rank_of p.shape c)) (report_of p c) more → a ≡ answered Done (report_of p c ++ more) → OfWhole proof p a
+  refuted : (text : List ℕ) → NoneLegal p.shape (meets p) → IsRefutation (whole_meaning p) None [] text → a ≡ answered NoChoice text → OfWhole proof p a
 
 -- what is said of a refutation that is accepted
 abbrev pub accepted_text : Option ℕ → List ℕ

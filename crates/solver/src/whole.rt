@@ -4,23 +4,27 @@ ghost use Rattle.res_base.specs.Lists.{Each};
 ghost use Rattle.choice_rank.specs.Choices.{IsChoice};
 ghost use Rattle.choice_rank.specs.Least.{IsAnswer, NoneLegal};
 ghost use Rattle.choice_setup.specs.SetUp.{setting_of};
+ghost use Rattle.init_gen.specs.Good.{IsSettable};
 ghost use Rattle.init_gen.specs.Writes.{writes_of};
 ghost use Rattle.reg_machine.specs.Words.{IsOp};
 ghost use Rattle.report.specs.Reported.{report_text};
-ghost use Rattle.box_rules.specs.Judged.{whole_meaning};
+ghost use Rattle.box_rules.specs.Judged.{IsWhole, whole_meaning};
 ghost use Rattle.problem.specs.Meets.{meets};
 ghost use Rattle.problem.specs.Problem.{AreHomesDue, problem_of};
 ghost use Rattle.problem.specs.declared.parts.Part.TheVariants as part;
 ghost use Rattle.res_model.specs.Placed.{IsPlaced};
 ghost use Rattle.search_api.specs.Accounts.{Accounted};
-ghost use Rattle.solver.specs.Owed.{AreSound, IsMore, OfProblem, OfWhole};
+ghost use Rattle.res_model.specs.Valid.{IsValid};
+ghost use Rattle.solver.specs.Owed.{AreReadBack, AreSound, OfProblem, OfWhole};
+ghost use Rattle.solver.specs.Spelled.{IsAsked};
 
 use crate::least::{least_of, too_wide};
 use crate::proof_text::refutation_text;
+use access_lines::accesses_are_read;
 use answers::{Answer, Status};
 use box_judge::PinClockJudge;
 use choice_rank::ShapeFault;
-use choice_setup::writes;
+use choice_setup::{choices_are_allowed, generate};
 use problem::{Part, Problem, build};
 use reg_machine::Op;
 use report::report_text;
@@ -38,7 +42,7 @@ fn more_of(
     proof: bool,
 ) -> Result<Vec<u8>, OutOfMemory>
     requires { Accounted (whole_meaning judge.now.problem) outcome.now.best outcome.now.kept outcome.now.closed }
-    ensures { IfOk result (λ x. IsMore proof (whole_meaning judge.now.problem) outcome.now.best x.items) }
+    ensures { IfOk result (λ x. IsAsked proof (whole_meaning judge.now.problem) outcome.now.best x.items) }
 {
     if proof {
         refutation_text(alloc, judge, outcome)
@@ -75,6 +79,35 @@ fn are_registers(p: &Problem, at: &[u16], ops: &[Op])
     let _ = at;
 }
 
+/// That the setting of a choice can be set up.
+fn is_settable(p: &Problem, at: &[u16])
+    requires choice { IsChoice p.now.shape at.now }
+    requires whole { p.now.first ≢ 0 }
+    ensures { IsSettable (setting_of p.now at.now) }
+{
+    p.parts_agree();
+    p.parts().tables.keeps_rules();
+    choices_are_allowed();
+    let _ = at;
+}
+
+/// That the C text of the accesses of a choice is read as these.
+fn are_read_back(p: &Problem, at: &[u16])
+    requires choice { IsChoice p.now.shape at.now }
+    requires whole { p.now.first ≢ 0 }
+    ensures { AreReadBack (writes_of (setting_of p.now at.now)) }
+{
+    is_settable(p, at);
+    accesses_are_read();
+}
+
+/// That the table of a problem keeps every rule.
+fn is_valid(p: &Problem)
+    ensures { IsValid p.now.tables }
+{
+    p.parts().tables.keeps_rules();
+}
+
 /// The report of a choice that meets every limit.
 fn report_of(alloc: Global, p: &Problem, at: &[u16]) -> Result<Vec<u8>, OutOfMemory>
     requires choice { IsChoice p.now.shape at.now }
@@ -82,8 +115,10 @@ fn report_of(alloc: Global, p: &Problem, at: &[u16]) -> Result<Vec<u8>, OutOfMem
     requires meets { meets p.now at.now ≡ true }
     ensures report { IfOk result (λ x. x.items ≡ report_text p.now at.now (writes_of (setting_of p.now at.now))) }
     ensures sound { OnOk result (AreSound p.now at.now) }
+    ensures read_back { OnOk result (AreReadBack (writes_of (setting_of p.now at.now))) }
 {
-    let ops = writes(alloc, p, at)?;
+    are_read_back(p, at);
+    let ops = generate(alloc, p, at)?;
     are_registers(p, at, ops.as_slice());
     let text = report_text(alloc, p, at, ops.as_slice())?;
     Ok(text)
@@ -98,10 +133,13 @@ fn reported(
     proof: bool,
 ) -> Result<Answer, OutOfMemory>
     requires whole { p.now.first ≢ 0 }
+    requires is_whole { IsWhole p.now }
+    requires placed { Each (IsPlaced p.now.tables) p.now.signals }
     requires answer { IsAnswer p.now.shape (meets p.now) (Some rank) }
-    requires more { IsMore proof (whole_meaning p.now) (Some rank) more.now }
+    requires more { IsAsked proof (whole_meaning p.now) (Some rank) more.now }
     ensures { IfOk result (λ a. OfWhole proof p.now a) }
 {
+    is_valid(p);
     let at = least_of(alloc, &p.parts().shape, rank)?;
     let mut text = report_of(alloc, p, at.as_slice())?;
     text.extend_from_slice(more)?;
@@ -119,6 +157,7 @@ fn told(
     proof: bool,
 ) -> Result<Answer, OutOfMemory>
     requires whole { judge.now.problem.first ≢ 0 }
+    requires placed { Each (IsPlaced judge.now.problem.tables) judge.now.problem.signals }
     requires accounted { Accounted (whole_meaning judge.now.problem) outcome.now.best outcome.now.kept outcome.now.closed }
     requires answer { IsAnswer judge.now.problem.shape (meets judge.now.problem) outcome.now.best }
     ensures { IfOk result (λ a. OfWhole proof judge.now.problem a) }
@@ -133,7 +172,8 @@ fn told(
 }
 
 fn searched(alloc: Global, p: Problem, proof: bool) -> Result<Answer, OutOfMemory>
-    requires { p.first ≢ 0 }
+    requires whole { p.first ≢ 0 }
+    requires placed { Each (IsPlaced p.tables) p.signals }
     ensures { IfOk result (λ a. OfWhole proof p a) }
 {
     let judge = PinClockJudge::new(alloc, p)?;

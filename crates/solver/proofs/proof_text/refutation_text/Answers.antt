@@ -7,7 +7,6 @@ use Rattle.refutation.specs.Spelling.{spelling}
 use Rattle.refutation.specs.Trees.{IsAccepted}
 use Rattle.refutation.proofs.FromLemmas.{covered, owned, sound}
 use Rattle.search_api.specs.Meaning.{Meaning}
-use Rattle.solver.specs.Refutation.{IsRefutation}
 use Rattle.solver.proofs.proof_text.refutation_text.Goals as goal
 
 pub returns : goal.returns

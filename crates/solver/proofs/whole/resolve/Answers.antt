@@ -6,12 +6,17 @@ use Rattle.choice_rank.specs.declared.shape.ShapeFault.TheVariants.{TooWide}
 use Rattle.problem.specs.Problem.{IsRefused, problem_of}
 use Rattle.problem.specs.declared.parts.Part.TheVariants.{Whole}
 use Rattle.problem.specs.declared.parts.ProblemParts.{ProblemParts}
+use Rattle.res_base.specs.Lists.{Each}
+use Rattle.res_model.specs.Placed.{IsPlaced}
 use Rattle.solver.specs.Owed.{OfWhole, narrow, wide}
 use Rattle.solver.proofs.whole.resolve.Goals as goal
 
 pub searched-requires : goal.searched-requires
 unfolding problem_of
-searched-requires c = subst (λ (q : ProblemParts). q.first ≢ 0) (sym c.in-Ok.ensures.problem) (λ e. omega (arith, e))
+searched-requires c = record {
+  whole = subst (λ (q : ProblemParts). q.first ≢ 0) (sym c.in-Ok.ensures.problem) (λ e. omega (arith, e));
+  placed = subst (λ (q : ProblemParts). Each (IsPlaced q.tables) q.signals) (sym c.in-Ok.ensures.problem) c.requires.placed;
+}
 
 pub returns-in-Ok : goal.returns-in-Ok
 unfolding problem_of
