@@ -4,7 +4,7 @@ use Rattle.mcu_tables.specs.Table.{below}
 use Rattle.mcu_tables.specs.declared.fault.TableFault.{TableFault}
 use Rattle.mcu_tables.specs.declared.fault.TableFault.TheVariants as fault
 use Rattle.mcu_tables.specs.declared.place.Key.{Key}
-use Rattle.mcu_tables.specs.declared.place.Key.TheVariants.{Version, Names, Package, Pins, Signals, Name, Use, Ip, Drain, At, HseIn, HseOut, Ips, Clock48, Floor, Marks, Clock, M, N, Q, P, Hpre, Ppre1, Ppre2, Vos, Limits, Crystal, Bypass, VcoIn, Vco, Sysclk, Pclk1, Pclk2, Scales, Max, Flash, From, To, Prefetch, Rows, Defaults, Src, Psrc, Hse}
+use Rattle.mcu_tables.specs.declared.place.Key.TheVariants.{Version, Names, Package, Pins, Signals, Name, Use, Ip, Drain, At, HseIn, HseOut, Ips, Clock48, Floor, Marks, Clock, M, N, Q, P, Hpre, Ppre1, Ppre2, Vos, Limits, Crystal, Bypass, VcoIn, Vco, Sysclk, Pclk1, Pclk2, Scales, Max, Flash, From, To, Prefetch, Rows, Defaults, Src, Psrc, Hse, Dma}
 use Rattle.mcu_tables.specs.declared.place.Spot.{Spot}
 use Rattle.mcu_tables.specs.declared.place.Spot.TheVariants.{Top, Nested, Inner}
 use Rattle.mcu_tables.specs.declared.place.Place.{Place}
@@ -57,6 +57,7 @@ spelling Defaults = codes "defaults"
 spelling Src = codes "src"
 spelling Psrc = codes "psrc"
 spelling Hse = codes "hse"
+spelling Dma = codes "dma"
 
 -- the path of a member
 abbrev pub path_of : Spot → List ℕ

@@ -16,10 +16,12 @@ mod reset;
 mod rows;
 mod scales;
 mod signals;
-#[cfg(test)]
-mod tests;
 
 pub use fault::TableFault;
+pub use forms::{check_object, number_at, text_at};
+pub use json::{member_of, needed, value_of};
+pub use lists::counted_at;
+pub use place::{Flaw, Key, Place, Spot, spelled_fault};
 pub use read::read_tables;
 pub use res_model::{
     Bounds, Domains, FlashRange, Ip, Mode, Need48, Pin, PinUse, Role, Scale, TableParts,

@@ -53,6 +53,7 @@ pub enum Key {
     Src,
     Psrc,
     Hse,
+    Dma,
 }
 
 impl Key {
@@ -104,6 +105,7 @@ impl Key {
             Key::Src => "src",
             Key::Psrc => "psrc",
             Key::Hse => "hse",
+            Key::Dma => "dma",
         }
     }
 }

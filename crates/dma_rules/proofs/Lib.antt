@@ -1,0 +1,4 @@
+pub mod BoxLemmas
+pub mod LawLemmas
+pub mod LeastLemmas
+pub mod WantLemmas

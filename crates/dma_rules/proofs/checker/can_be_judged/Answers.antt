@@ -1,0 +1,5 @@
+use Rattle.dma_rules.proofs.WantLemmas.{want_is_judged}
+use Rattle.dma_rules.proofs.checker.can_be_judged.Goals as goal
+
+pub returns : goal.returns
+returns c = want_is_judged c.args.w.now c.keeps_bounds.ensures

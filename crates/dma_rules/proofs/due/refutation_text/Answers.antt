@@ -1,0 +1,29 @@
+use Rattle.std.proofs.Common.{◌≡◌, ◌∙◌, ℕ, Option, None, ap, subst, sym}
+use Rattle.std.specs.Prelude.{map}
+use Rattle.refutation.specs.Canonical.{IsCanonicalOf}
+use Rattle.refutation.specs.Forms.{form_of}
+use Rattle.refutation.specs.Spelling.{spelling}
+use Rattle.refutation.specs.Trees.{IsAccepted}
+use Rattle.refutation.proofs.FromLemmas.{owned, sound}
+use Rattle.search_api.specs.Meaning.{Meaning}
+use Rattle.dma_rules.specs.Judged.{dma_meaning}
+use Rattle.dma_rules.specs.Lawful.{dma_lawful}
+use Rattle.dma_rules.proofs.due.refutation_text.Goals as goal
+
+pub returns : goal.returns
+returns c =
+    let j = c.args.j.now in
+    let m : Meaning = dma_meaning j.want in
+    let o = c.args.o.now in
+    let nodes = c.in_ok-proof.proof.nodes in
+    let lawful = dma_lawful j.want j.judged in
+    let is_sound = sound m o.best o.kept o.closed c.requires.accounted in
+    let none : c.in_ok-proof.proof.bound ≡ None = c.in_ok-proof.ensures.bound ∙ c.requires.best in
+    let accepted : IsAccepted m c.in_ok-proof.proof.bound nodes = c.in_ok-proof.ensures.accepted m (sym c.shape.ensures) lawful is_sound in
+    let canonical : IsCanonicalOf m c.in_ok-proof.proof.bound nodes = c.in_ok-proof.ensures.canonical m (sym c.shape.ensures) lawful is_sound (owned m o.best o.kept o.closed c.requires.accounted) in
+    record {
+      nodes = nodes;
+      canonical = subst (λ (b : Option ℕ). IsCanonicalOf m b nodes) none canonical;
+      accepted = subst (λ (b : Option ℕ). IsAccepted m b nodes) none accepted;
+      text_is = c.in_ok-text.ensures ∙ ap (λ (b : Option ℕ). spelling b (map form_of nodes)) none;
+    }

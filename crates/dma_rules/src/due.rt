@@ -1,0 +1,88 @@
+//! What is due for wanted requests.
+ghost use Rattle.std.specs.Prelude.{◌≡◌, None, Some, IfOk};
+ghost use Rattle.choice_rank.specs.Least.{IsAnswer, NoneLegal};
+ghost use Rattle.search_api.specs.Accounts.{Accounted};
+ghost use Rattle.dma_rules.specs.Judged.{dma_meaning};
+ghost use Rattle.dma_rules.specs.Streams.{meets, shape_of};
+ghost use Rattle.dma_rules.specs.Texts.{IsRefutation, OfWant};
+
+use crate::judge::DmaJudge;
+use crate::least::least_of;
+use crate::lines::dma_text;
+use crate::want::DmaWant;
+use answers::{Answer, Status};
+use refutation::{canonical, write_proof};
+use res_base::{Items, OutOfMemory};
+use search_api::{Judge, Outcome};
+use serial_search::search;
+use std::alloc::Global;
+
+/// What is due for wanted requests, by the search of one worker.
+///
+/// `Done`: the rank line of the choice of least rank in which no two requests take one stream, and a line for each
+/// request. `NoChoice`, exactly where there is no such choice: the canonical refutation.
+pub fn dma_answer(alloc: Global, w: DmaWant) -> Result<Answer, OutOfMemory>
+    ensures { IfOk result (OfWant w) }
+{
+    let judge = DmaJudge::new(alloc, w)?;
+    let outcome = search(alloc, &judge)?;
+    dma_answer_of(alloc, &judge, &outcome)
+}
+
+/// The same by the outcome of any search that accounts for each choice.
+pub fn dma_answer_of(alloc: Global, j: &DmaJudge, o: &Outcome) -> Result<Answer, OutOfMemory>
+    requires { Accounted (dma_meaning j.now.want) o.now.best o.now.kept o.now.closed }
+    ensures { IfOk result (OfWant j.now.want) }
+{
+    told(alloc, j, o)
+}
+
+/// What is due for the rank of the least choice, or for none.
+fn told(alloc: Global, j: &DmaJudge, o: &Outcome) -> Result<Answer, OutOfMemory>
+    requires accounted { Accounted (dma_meaning j.now.want) o.now.best o.now.kept o.now.closed }
+    requires answer { IsAnswer (shape_of j.now.want) (meets j.now.want) o.now.best }
+    ensures { IfOk result (OfWant j.now.want) }
+{
+    match o.best {
+        Some(rank) => served(alloc, j.want(), rank),
+        None => refuted(alloc, j, o),
+    }
+}
+
+/// What is due where a rank is the least.
+fn served(alloc: Global, w: &DmaWant, rank: u64) -> Result<Answer, OutOfMemory>
+    requires { IsAnswer (shape_of w.now) (meets w.now) (Some rank) }
+    ensures { IfOk result (OfWant w.now) }
+{
+    let at = least_of(alloc, w.shape(), rank)?;
+    let text = dma_text(alloc, w, at.as_slice())?;
+    Ok(Answer {
+        status: Status::Done,
+        text: Items::of(text),
+    })
+}
+
+/// What is due where no choice is legal.
+fn refuted(alloc: Global, j: &DmaJudge, o: &Outcome) -> Result<Answer, OutOfMemory>
+    requires accounted { Accounted (dma_meaning j.now.want) o.now.best o.now.kept o.now.closed }
+    requires best { o.now.best ≡ None }
+    requires none { NoneLegal (shape_of j.now.want) (meets j.now.want) }
+    ensures { IfOk result (OfWant j.now.want) }
+{
+    let text = refutation_text(alloc, j, o)?;
+    Ok(Answer {
+        status: Status::NoChoice,
+        text: Items::of(text),
+    })
+}
+
+/// The text of the canonical refutation of an outcome without a best rank.
+fn refutation_text(alloc: Global, j: &DmaJudge, o: &Outcome) -> Result<Vec<u8>, OutOfMemory>
+    requires accounted { Accounted (dma_meaning j.now.want) o.now.best o.now.kept o.now.closed }
+    requires best { o.now.best ≡ None }
+    ensures { IfOk result (λ x. IsRefutation (dma_meaning j.now.want) x.items) }
+{
+    let proof = canonical(alloc, j.shape(), o)?;
+    let text = write_proof(alloc, &proof)?;
+    Ok(text)
+}

@@ -1,0 +1,9 @@
+use Rattle.std.proofs.Common.{◌≡◌, [], map, drop}
+use Rattle.mcu_tables.specs.Places.{path_of}
+use Rattle.mcu_tables.specs.Table.{entries_after}
+use Rattle.serde_json.specs.View.{view}
+use Rattle.dma_table.specs.Reading.{row}
+use Rattle.dma_table.proofs.entries.each_row.Given as goal
+
+abbrev pub invariant-loop-value : goal.invariant-loop-value
+invariant-loop-value l = entries_after row (path_of l.at) l.found.items (map view (drop l.value-index l.values)) ≡ entries_after row (path_of l.at) [] (map view l.values)
