@@ -32,6 +32,8 @@ pub enum Status {
     ProofRefused,
     /// More than one worker is not served yet.
     NotBuilt,
+    /// A DMA request that the table does not have, or that was asked for before.
+    RequestRefused,
 }
 
 impl Status {
@@ -52,6 +54,7 @@ impl Status {
             Status::OutOfMemory => 9,
             Status::ProofRefused => 10,
             Status::NotBuilt => 11,
+            Status::RequestRefused => 13,
         }
     }
 }

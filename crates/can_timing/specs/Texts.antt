@@ -1,5 +1,8 @@
 -- What is printed of a bit timing, and of a request that none serves.
 use Rattle.std.specs.Prelude.{◌≡◌, ℕ, ◌+◌, ◌*◌, ◌/◌, ◌%◌, List, [], ◌∷◌, ◌++◌, None, codes, decimal, map, nat_lt, if◌then◌else◌}
+use Rattle.answers.specs.Said.{answered}
+use Rattle.answers.specs.declared.answer.Answer.{Answer}
+use Rattle.answers.specs.declared.answer.Status.TheVariants.{Done, NoChoice}
 use Rattle.choice_rank.specs.Choices.{rank_of}
 use Rattle.choice_rank.specs.Least.{IsLeast, NoneLegal}
 use Rattle.refutation.specs.declared.node.Node.{Node}
@@ -57,6 +60,6 @@ pub record IsRefutation (m : Meaning) (text : List ℕ) : Type 0 where
   pub text_is : text ≡ spelling None (map form_of nodes)
 
 -- the text of the choice of least rank that serves, or the refutation of all choices
-pub data IsDue (q : Request) (status : ℕ) (text : List ℕ) : Type 0 where
-  found : (c : List ℕ) → IsLeast can_shape (legal q) c → status ≡ 0 → text ≡ can_text q c → IsDue q status text
-  refuted : NoneLegal can_shape (legal q) → status ≡ 1 → IsRefutation (can_meaning q) text → IsDue q status text
+pub data IsDue (q : Request) (a : Answer) : Type 0 where
+  found : (c : List ℕ) → IsLeast can_shape (legal q) c → a ≡ answered Done (can_text q c) → IsDue q a
+  refuted : (text : List ℕ) → NoneLegal can_shape (legal q) → IsRefutation (can_meaning q) text → a ≡ answered NoChoice text → IsDue q a

@@ -1,3 +1,4 @@
+//! The judge of boxes of bit timings, and the checker of proofs about them.
 ghost use Rattle.std.specs.Prelude.{◌≡◌, ◌<◌, ◌^◌, length, IfOk, IfErr, OnOk};
 ghost use Rattle.choice_rank.specs.Least.{IsAnswer};
 ghost use Rattle.box_split.specs.Boxes.{IsBox, is_single};

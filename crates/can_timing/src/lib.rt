@@ -1,8 +1,8 @@
 //! Bit timings of a CAN bus for an exact rate and a sample point, and why there is none.
 #![tactic(auto)]
 
-mod answers;
 mod corners;
+mod due;
 mod judge;
 mod laws;
 mod least;
@@ -12,7 +12,7 @@ mod request;
 mod rules;
 mod timing;
 
-pub use answers::{CanAnswer, answer, can_text};
+pub use due::{answer, can_text};
 pub use judge::{CanJudge, check_can};
 pub use laws::{
     choices_are_timings, least_choice_is_the_first_timing, lower_ranks_come_first,

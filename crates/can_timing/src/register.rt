@@ -1,3 +1,4 @@
+//! The register CAN_BTR.
 ghost use Rattle.std.specs.Prelude.{◌≡◌};
 ghost use Rattle.can_timing.specs.Timings.{IsTiming, btr_of};
 

@@ -1,3 +1,4 @@
+//! What a bus asks for.
 use res_base::Ratio;
 
 /// What a bus is to have: this many bits per second from a clock in hertz, and a sample point in

@@ -1,3 +1,4 @@
+//! Bit timings.
 ghost use Rattle.std.specs.Prelude.{◌≡◌, ◌<◌, ◌∷◌, []};
 ghost use Rattle.choice_rank.specs.Choices.{IsChoice};
 ghost use Rattle.can_timing.specs.Timings.{can_shape, clocks, quanta, timing_of};

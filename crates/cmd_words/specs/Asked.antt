@@ -1,7 +1,7 @@
 -- What a command reads, and what it may do.
 use Rattle.std.specs.Prelude.{ℕ, List, [], ◌∷◌, Bool, true, false}
 use Rattle.cmd_words.specs.declared.command.Command.{Command}
-use Rattle.cmd_words.specs.declared.command.Command.TheVariants.{Pins, Tree, Resolve, Check, Case}
+use Rattle.cmd_words.specs.declared.command.Command.TheVariants.{Pins, Tree, Resolve, Check, Case, Can, I2s, Dma}
 
 -- the inputs that a command reads, in their order
 abbrev pub inputs_of : Command → List (List ℕ)
@@ -10,6 +10,9 @@ inputs_of (Tree tables project opts) = tables ∷ project ∷ []
 inputs_of (Resolve tables project opts workers proof) = tables ∷ project ∷ []
 inputs_of (Check tables project proof opts) = tables ∷ project ∷ proof ∷ []
 inputs_of (Case number workers) = []
+inputs_of (Can tables project rate point tolerance) = tables ∷ project ∷ []
+inputs_of (I2s tables project rate) = tables ∷ project ∷ []
+inputs_of (Dma tables requests workers) = tables ∷ []
 
 -- the commands that may start threads
 abbrev pub may_wait : Command → Bool
@@ -18,6 +21,9 @@ may_wait (Tree tables project opts) = false
 may_wait (Resolve tables project opts workers proof) = true
 may_wait (Check tables project proof opts) = false
 may_wait (Case number workers) = true
+may_wait (Can tables project rate point tolerance) = false
+may_wait (I2s tables project rate) = false
+may_wait (Dma tables requests workers) = true
 
 -- the workers that a command asks for
 abbrev pub workers_asked : Command → ℕ
@@ -26,3 +32,6 @@ workers_asked (Tree tables project opts) = 1
 workers_asked (Resolve tables project opts workers proof) = workers
 workers_asked (Check tables project proof opts) = 1
 workers_asked (Case number workers) = workers
+workers_asked (Can tables project rate point tolerance) = 1
+workers_asked (I2s tables project rate) = 1
+workers_asked (Dma tables requests workers) = workers

@@ -5,16 +5,22 @@
 --     resolve T P [OPTIONS] [--workers N] [--proof]
 --     check T P PROOF [OPTIONS]
 --     case K [--workers N]
+--     can T P RATE POINT TOLERANCE
+--     dma T REQUEST.. [--workers N]
+--     i2s T P SAMPLE_RATE
 --
 -- OPTIONS are --vdd MV, --need SIGNAL, --hclk HZ, --pclk1 HZ, --pclk2 HZ and --free pins|clock|all|none. Options stand
--- after the names, in any order, and each at most once but --need. T, P, PROOF and SIGNAL are any words.
-use Rattle.std.specs.Prelude.{ℕ, ◌≤◌, IfSome, ◌+◌, Bool, true, false, List, [], ◌∷◌, ◌++◌, length, find, codes, nat_le, if◌then◌else◌, Option, Some, None, option_and_then, option_map, is_some, unwrap_or, Result, Ok, Err}
+-- after the names, in any order, and each at most once but --need. T, P, PROOF and SIGNAL are any words;
+-- of a REQUEST there are 1 to 16, and none begins with two hyphens.
+-- RATE is in bits per second, SAMPLE_RATE in hertz, POINT and TOLERANCE are in per mille of a bit.
+use Rattle.std.specs.Prelude.{ℕ, ◌≤◌, IfSome, ◌+◌, ◌==◌, Bool, true, false, List, [], ◌∷◌, ◌++◌, length, take, drop, eqb, find, codes, nat_le, nat_lt, if◌then◌else◌, Option, Some, None, option_and_then, option_map, is_some, unwrap_or, Result, Ok, Err}
+use Rattle.std.specs.List.{position_or_len, starts_with}
 use Rattle.std.specs.Str.{bytes_eq}
 use Rattle.res_model.specs.Numbers.{number_of, number_up_to}
 use Rattle.res_model.specs.Steps.{◌>>=◌}
 use Rattle.res_model.specs.declared.opts.Opts.{Opts}
 use Rattle.cmd_words.specs.declared.command.Command.{Command}
-use Rattle.cmd_words.specs.declared.command.Command.TheVariants.{Pins, Tree, Resolve, Check, Case}
+use Rattle.cmd_words.specs.declared.command.Command.TheVariants.{Pins, Tree, Resolve, Check, Case, Can, I2s, Dma}
 use Rattle.res_model.specs.declared.opts.Free.{Free as FreeSet}
 use Rattle.res_model.specs.declared.opts.Free.TheVariants as free
 use Rattle.cmd_words.specs.declared.fault.UsageFault.{UsageFault}
@@ -63,12 +69,30 @@ free_of word =
     else (if bytes_eq word (codes "none") then Some free.Nothing
     else None)))
 
+-- A number from a least to a greatest one.
+abbrev pub number_from : ℕ → ℕ → List ℕ → Option ℕ
+number_from least most word = option_and_then (λ n. if nat_le least n then Some n else None) (number_up_to most word)
+
 -- A number of workers, and a number of hertz.
 abbrev pub workers_of : List ℕ → Option ℕ
-workers_of word = option_and_then (λ n. if nat_le 1 n then Some n else None) (number_up_to 16 word)
+workers_of word = number_from 1 16 word
 
 abbrev pub hertz_of : List ℕ → Option ℕ
 hertz_of word = number_up_to 4294967295 word
+
+-- A bit rate, a sample point, and its tolerance to either side.
+abbrev pub rate_of : List ℕ → Option ℕ
+rate_of word = number_from 1 1000000 word
+
+abbrev pub point_of : List ℕ → Option ℕ
+point_of word = number_from 1 999 word
+
+abbrev pub tolerance_of : List ℕ → Option ℕ
+tolerance_of word = number_up_to 999 word
+
+-- A sample rate of an audio interface, in hertz.
+abbrev pub sample_rate_of : List ℕ → Option ℕ
+sample_rate_of word = number_from 8000 192000 word
 
 -- An option that was given is not taken again, but --need, which gives one signal more each time.
 abbrev pub is_given : Given → Flag → Bool
@@ -179,6 +203,58 @@ case_of (k ∷ words) = do
   Ok (Case number (worker_count g))
 case_of words = too_early words
 
+-- can T P RATE POINT TOLERANCE
+abbrev pub can_of : List (List ℕ) → Result Command UsageFault
+can_of (t ∷ p ∷ rate ∷ point ∷ tolerance ∷ words) = do
+  r ← allowed 4 (rate_of rate)
+  s ← allowed 5 (point_of point)
+  d ← allowed 6 (tolerance_of tolerance)
+  g ← options [] 7 words
+  Ok (Can t p r s d)
+can_of (t ∷ p ∷ rate ∷ point ∷ []) = do
+  r ← allowed 4 (rate_of rate)
+  s ← allowed 5 (point_of point)
+  Err (Word 6)
+can_of (t ∷ p ∷ rate ∷ []) = do
+  r ← allowed 4 (rate_of rate)
+  Err (Word 5)
+can_of words = too_early words
+
+-- i2s T P SAMPLE_RATE
+abbrev pub i2s_of : List (List ℕ) → Result Command UsageFault
+i2s_of (t ∷ p ∷ rate ∷ words) = do
+  r ← allowed 4 (sample_rate_of rate)
+  g ← options [] 5 words
+  Ok (I2s t p r)
+i2s_of words = too_early words
+
+-- the word of an option
+abbrev pub is_option : List ℕ → Bool
+is_option word = starts_with eqb word (codes "--")
+
+-- how many words stand before the first of an option
+abbrev pub names_before : List (List ℕ) → ℕ
+names_before words = position_or_len is_option words
+
+-- requests, and the options behind them
+abbrev pub with_requests : List ℕ → List (List ℕ) → List (List ℕ) → Result Command UsageFault
+with_requests t requests words = do
+  g ← options case_takes (3 + length requests) words
+  Ok (Dma t requests (worker_count g))
+
+-- there are 1 to 16: the third word is at fault where there is none, and the word of the 17th where there are more
+abbrev pub requested : List ℕ → List (List ℕ) → List (List ℕ) → Result Command UsageFault
+requested t requests words = if length requests == 0 then Err (Word 3) else (if nat_lt 16 (length requests) then Err (Word 19) else with_requests t requests words)
+
+-- the requests are the words before the first of an option
+abbrev pub requests_of : List ℕ → List (List ℕ) → Result Command UsageFault
+requests_of t words = requested t (take (names_before words) words) (drop (names_before words) words)
+
+-- dma T REQUEST.. [--workers N]
+abbrev pub dma_of : List (List ℕ) → Result Command UsageFault
+dma_of [] = too_early []
+dma_of (t ∷ words) = requests_of t words
+
 -- The command that words ask for, or the first word, from 1, that the grammar does not allow there: one more
 -- than their number where they end too early.
 unfoldable pub command_of : List (List ℕ) → Result Command UsageFault
@@ -189,7 +265,10 @@ command_of (command ∷ words) =
     else (if bytes_eq command (codes "resolve") then resolve_of words
     else (if bytes_eq command (codes "check") then check_of words
     else (if bytes_eq command (codes "case") then case_of words
-    else Err (Word 1)))))
+    else (if bytes_eq command (codes "can") then can_of words
+    else (if bytes_eq command (codes "i2s") then i2s_of words
+    else (if bytes_eq command (codes "dma") then dma_of words
+    else Err (Word 1))))))))
 
 -- The numbers that the grammar allows: what options gave, and what a command has.
 abbrev pub IsHertz : Option ℕ → Type 0
@@ -211,9 +290,17 @@ pub record HasLimits (opts : Opts) : Type 0 where
   pub pclk1 : IsHertz opts.pclk1
   pub pclk2 : IsHertz opts.pclk2
 
+pub record IsBitTiming (rate point tolerance : ℕ) : Type 0 where
+  pub rate_is : (1 ≤ rate) × (rate ≤ 1000000)
+  pub point_is : (1 ≤ point) × (point ≤ 999)
+  pub tolerance_is : tolerance ≤ 999
+
 abbrev pub IsWithinLimits : Command → Type 0
 IsWithinLimits (Pins t p opts) = HasLimits opts
 IsWithinLimits (Tree t p opts) = HasLimits opts
 IsWithinLimits (Resolve t p opts workers proof) = HasLimits opts × IsWorkers workers
 IsWithinLimits (Check t p proof opts) = HasLimits opts
 IsWithinLimits (Case number workers) = IsWorkers workers
+IsWithinLimits (Can t p rate point tolerance) = IsBitTiming rate point tolerance
+IsWithinLimits (I2s t p rate) = (8000 ≤ rate) × (rate ≤ 192000)
+IsWithinLimits (Dma t requests workers) = ((1 ≤ length requests) × (length requests ≤ 16)) × IsWorkers workers

@@ -2,7 +2,7 @@
 ghost use Rattle.std.specs.Prelude.{◌≡◌, [], ◌∷◌, IfOk};
 ghost use Rattle.cmd_words.specs.Asked.{inputs_of, may_wait, workers_asked};
 
-use res_base::{OutOfMemory, Text};
+use res_base::{Items, OutOfMemory, Text};
 use res_model::Opts;
 use std::alloc::Global;
 
@@ -41,6 +41,34 @@ pub enum Command {
         number: u64,
         workers: u32,
     },
+    /// Streams for these DMA requests.
+    Dma {
+        tables: Text,
+        requests: Items<Text>,
+        workers: u32,
+    },
+    /// The bit timing of a CAN bus: a rate in bits per second, and a sample point with its tolerance to
+    /// either side, both in per mille of a bit.
+    Can {
+        tables: Text,
+        project: Text,
+        rate: u32,
+        point: u32,
+        tolerance: u32,
+    },
+    /// The PLLI2S of a sample rate in hertz, with its writes.
+    I2s {
+        tables: Text,
+        project: Text,
+        rate: u32,
+    },
+}
+
+/// The name of a table.
+fn one_name(alloc: Global, tables: &Text) -> Result<Vec<Text>, OutOfMemory>
+    ensures { IfOk result (λ names. names.items ≡ tables.now ∷ []) }
+{
+    Ok(vec![in alloc; Text::copy(alloc, tables.as_str())?]?)
 }
 
 /// The names of a table and a project.
@@ -97,6 +125,17 @@ impl Command {
                 ..
             } => three_names(alloc, tables, project, proof),
             Command::Case { .. } => Ok(Vec::new(alloc)),
+            Command::Dma { tables, .. } => one_name(alloc, tables),
+            Command::Can {
+                tables,
+                project,
+                ..
+            } => two_names(alloc, tables, project),
+            Command::I2s {
+                tables,
+                project,
+                ..
+            } => two_names(alloc, tables, project),
         }
     }
 
@@ -105,7 +144,7 @@ impl Command {
         ensures { result ≡ may_wait self.now }
     {
         match self {
-            Command::Resolve { .. } | Command::Case { .. } => true,
+            Command::Resolve { .. } | Command::Case { .. } | Command::Dma { .. } => true,
             _ => false,
         }
     }
@@ -117,6 +156,7 @@ impl Command {
         match self {
             Command::Resolve { workers, .. } => *workers,
             Command::Case { workers, .. } => *workers,
+            Command::Dma { workers, .. } => *workers,
             _ => 1,
         }
     }

@@ -1,12 +1,14 @@
+//! The words of each command.
 ghost use Rattle.std.specs.Prelude.{◌≡◌, map, string_bytes, IfOk};
 ghost use Rattle.cmd_words.specs.UsageFaults.{Gives};
-ghost use Rattle.cmd_words.specs.Words.{pins_takes, tree_takes, resolve_takes, check_takes, case_takes, pins_of, tree_of, resolve_of, check_of, case_of, command_of, IsWithinLimits};
+ghost use Rattle.cmd_words.specs.Words.{pins_takes, tree_takes, resolve_takes, check_takes, case_takes, pins_of, tree_of, resolve_of, check_of, case_of, can_of, i2s_of, command_of, IsWithinLimits};
 
 use crate::command::Command;
 use crate::fault::UsageFault;
 use crate::given::Flag;
 use crate::options::{opts_of, read_options, worker_count};
-use crate::values::number_of;
+use crate::requests::read_dma;
+use crate::values::{allowed, number_of, point_of, rate_of, sample_rate_of, tolerance_of};
 use res_base::Text;
 use std::alloc::Global;
 
@@ -14,7 +16,7 @@ const PINS: [Flag; 1] = [Flag::Need];
 
 const TREE: [Flag; 1] = [Flag::Vdd];
 
-const CHECK: [Flag; 6] = [
+const COMMON: [Flag; 6] = [
     Flag::Vdd,
     Flag::Need,
     Flag::Hclk,
@@ -35,6 +37,9 @@ const RESOLVE: [Flag; 8] = [
 ];
 
 const CASE: [Flag; 1] = [Flag::Workers];
+
+/// Commands without options.
+const NONE: [Flag; 0] = [];
 
 fn read_pins(alloc: Global, words: &[String]) -> Result<Command, UsageFault>
     ensures gives { Gives (λ c. c) result (pins_of (map string_bytes words.now)) }
@@ -100,7 +105,7 @@ fn read_check(alloc: Global, words: &[String]) -> Result<Command, UsageFault>
             word: words.len() + 2,
         });
     };
-    let given = read_options(alloc, &CHECK, words, 5)?;
+    let given = read_options(alloc, &COMMON, words, 5)?;
     Ok(Command::Check {
         tables: Text::copy(alloc, tables.as_str())?,
         project: Text::copy(alloc, project.as_str())?,
@@ -126,6 +131,57 @@ fn read_case(alloc: Global, words: &[String]) -> Result<Command, UsageFault>
     })
 }
 
+fn read_can(alloc: Global, words: &[String]) -> Result<Command, UsageFault>
+    ensures gives { Gives (λ c. c) result (can_of (map string_bytes words.now)) }
+    ensures limits { IfOk result IsWithinLimits }
+{
+    match words {
+        [tables, project, rate, point, tolerance, words @ ..] => {
+            let rate = allowed(rate_of(rate.as_str()), 4)?;
+            let point = allowed(point_of(point.as_str()), 5)?;
+            let tolerance = allowed(tolerance_of(tolerance.as_str()), 6)?;
+            read_options(alloc, &NONE, words, 7)?;
+            Ok(Command::Can {
+                tables: Text::copy(alloc, tables.as_str())?,
+                project: Text::copy(alloc, project.as_str())?,
+                rate,
+                point,
+                tolerance,
+            })
+        }
+        [_, _, rate, point] => {
+            allowed(rate_of(rate.as_str()), 4)?;
+            allowed(point_of(point.as_str()), 5)?;
+            Err(UsageFault::Word { word: 6 })
+        }
+        [_, _, rate] => {
+            allowed(rate_of(rate.as_str()), 4)?;
+            Err(UsageFault::Word { word: 5 })
+        }
+        _ => Err(UsageFault::Word {
+            word: words.len() + 2,
+        }),
+    }
+}
+
+fn read_i2s(alloc: Global, words: &[String]) -> Result<Command, UsageFault>
+    ensures gives { Gives (λ c. c) result (i2s_of (map string_bytes words.now)) }
+    ensures limits { IfOk result IsWithinLimits }
+{
+    let [tables, project, rate, words @ ..] = words else {
+        return Err(UsageFault::Word {
+            word: words.len() + 2,
+        });
+    };
+    let rate = allowed(sample_rate_of(rate.as_str()), 4)?;
+    read_options(alloc, &NONE, words, 5)?;
+    Ok(Command::I2s {
+        tables: Text::copy(alloc, tables.as_str())?,
+        project: Text::copy(alloc, project.as_str())?,
+        rate,
+    })
+}
+
 /// The command that words ask for, or the first word, from 1, that the grammar does not allow there.
 #[tactic(auto, unfolding(crate::specs::Words::command_of))]
 pub fn read_words(alloc: Global, words: &[String]) -> Result<Command, UsageFault>
@@ -141,6 +197,9 @@ pub fn read_words(alloc: Global, words: &[String]) -> Result<Command, UsageFault
         "resolve" => read_resolve(alloc, words),
         "check" => read_check(alloc, words),
         "case" => read_case(alloc, words),
+        "can" => read_can(alloc, words),
+        "dma" => read_dma(alloc, words),
+        "i2s" => read_i2s(alloc, words),
         _ => Err(UsageFault::Word { word: 1 }),
     }
 }

@@ -1,3 +1,4 @@
+//! The names of the options.
 ghost use Rattle.std.specs.Prelude.{◌≡◌, find};
 ghost use Rattle.std.specs.Str.{bytes_eq};
 ghost use Rattle.cmd_words.specs.Words.{word_of, is_given};

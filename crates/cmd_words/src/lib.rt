@@ -7,6 +7,7 @@ mod fault;
 mod flags;
 mod given;
 mod options;
+mod requests;
 mod values;
 
 pub use command::Command;

@@ -1,3 +1,4 @@
+//! The options that stand after a command's names.
 ghost use Rattle.std.specs.Prelude.{◌≡◌, ◌+◌, ◌^◌, ◌<◌, length, map, string_bytes, OnOk, IfOk};
 ghost use Rattle.cmd_words.specs.UsageFaults.{Gives};
 ghost use Rattle.cmd_words.specs.Words.{allowed, word_read, options, opts_of, worker_count, IsLimited, IsWorkers, HasLimits};

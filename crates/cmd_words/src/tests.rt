@@ -1,3 +1,4 @@
+//! Lines of words, and what they ask for or the word at fault.
 use crate::*;
 use std::alloc::Global;
 use std::test::Fail;
@@ -33,6 +34,22 @@ fn the_first_word_that_is_not_allowed_is_named(rt: HostRuntime) -> Result<(), Fa
         ("case 07", 2),
         ("case 7 --workers=2", 3),
         ("case 7 --workers 0", 4),
+        ("i2s t p", 4),
+        ("i2s t p 7999", 4),
+        ("i2s t p 192001", 4),
+        ("i2s t p 48000 --vdd", 5),
+        ("dma", 2),
+        ("dma t", 3),
+        ("dma t --workers 4 x", 3),
+        ("dma t x --workers 4 y", 6),
+        ("dma t 1 2 3 4 5 6 7 8 9 10 11 12 13 14 15 16 17", 19),
+        ("can t p", 4),
+        ("can t p 0", 4),
+        ("can t p 1000001 875", 4),
+        ("can t p 500000 0", 5),
+        ("can t p 500000 1000", 5),
+        ("can t p 500000 875 1000", 6),
+        ("can t p 500000 875 20 --vdd", 7),
     ];
     for (line, want) in rows {
         match read(rt.alloc(), line)? {
@@ -53,6 +70,9 @@ fn each_command_is_read(rt: HostRuntime) -> Result<(), Fail> {
         "resolve T B",
         "check T B --vdd --free none",
         "case 18446744073709551615",
+        "can T P 1000000 1 999",
+        "i2s T P 192000",
+        "dma T 1 2 3 4 5 6 7 8 9 10 11 12 13 14 15 16 --workers 2",
     ];
     let wants = [
         "pins T B 3300 I2C1_SCL --need None None None All",
@@ -61,6 +81,9 @@ fn each_command_is_read(rt: HostRuntime) -> Result<(), Fail> {
         "resolve T B 3300 None None None All 1 false",
         "check T B --vdd 3300 None None None Nothing",
         "case 18446744073709551615 1",
+        "can T P 1000000 1 999",
+        "i2s T P 192000",
+        "dma T 16 2",
     ];
     for (line, want) in rows.iter().zip(wants) {
         let Ok(command) = read(alloc, line)? else {
@@ -113,6 +136,32 @@ fn told(alloc: Global, command: &Command) -> Result<String, Fail> {
             format!(in alloc; "check {tables} {project} {proof} {opts}")?
         }
         Command::Case { number, workers } => format!(in alloc; "case {number} {workers}")?,
+        Command::I2s {
+            tables,
+            project,
+            rate,
+        } => {
+            let (tables, project) = (tables.as_str(), project.as_str());
+            format!(in alloc; "i2s {tables} {project} {rate}")?
+        }
+        Command::Dma {
+            tables,
+            requests,
+            workers,
+        } => {
+            let (tables, count) = (tables.as_str(), requests.as_slice().len());
+            format!(in alloc; "dma {tables} {count} {workers}")?
+        }
+        Command::Can {
+            tables,
+            project,
+            rate,
+            point,
+            tolerance,
+        } => {
+            let (tables, project) = (tables.as_str(), project.as_str());
+            format!(in alloc; "can {tables} {project} {rate} {point} {tolerance}")?
+        }
     })
 }
 

@@ -1,7 +1,8 @@
+//! Values of words: numbers within their bounds, and what may be free.
 ghost use Rattle.std.specs.Prelude.{◌≡◌, ◌≤◌, IfSome, OnOk};
 ghost use Rattle.res_model.specs.Numbers.{number_of, number_up_to};
 ghost use Rattle.cmd_words.specs.UsageFaults.{Gives};
-ghost use Rattle.cmd_words.specs.Words.{allowed, free_of, workers_of, with_value, IsWorkers, IsLimited};
+ghost use Rattle.cmd_words.specs.Words.{allowed, free_of, number_from, point_of, rate_of, sample_rate_of, tolerance_of, workers_of, with_value, IsWorkers, IsLimited};
 
 use crate::fault::UsageFault;
 use crate::given::{Flag, Given};
@@ -14,6 +15,17 @@ const MOST_VDD: u64 = 10_000;
 
 /// The greatest frequency, in hertz.
 const MOST_HERTZ: u64 = 4_294_967_295;
+
+/// The greatest bit rate of a CAN bus, in bits per second (ISO 11898-2).
+const MOST_RATE: u64 = 1_000_000;
+
+/// The greatest part of a bit, in per mille, that is not all of it.
+const MOST_PER_MILLE: u64 = 999;
+
+/// The least and the greatest sample rate, in hertz: those of common codecs.
+const LEAST_SAMPLE_RATE: u64 = 8_000;
+
+const MOST_SAMPLE_RATE: u64 = 192_000;
 
 /// The most workers.
 const MOST_WORKERS: u64 = 16;
@@ -35,13 +47,53 @@ fn number_up_to(most: u64, word: &str) -> Option<u64>
     if number <= most { Some(number) } else { None }
 }
 
+/// A number from a least to a greatest one.
+fn number_from(least: u64, most: u64, word: &str) -> Option<u64>
+    ensures number { result ≡ number_from least most word.now }
+    ensures within { IfSome result (λ n. (least ≤ n) × (n ≤ most)) }
+{
+    let number = number_up_to(most, word)?;
+    if least <= number { Some(number) } else { None }
+}
+
 /// A number of workers.
 fn workers_of(word: &str) -> Option<u64>
     ensures number { result ≡ workers_of word.now }
     ensures within { IfSome result IsWorkers }
 {
-    let number = number_up_to(MOST_WORKERS, word)?;
-    if 1 <= number { Some(number) } else { None }
+    number_from(1, MOST_WORKERS, word)
+}
+
+/// A bit rate, in bits per second.
+pub fn rate_of(word: &str) -> Option<u32>
+    ensures number { result ≡ rate_of word.now }
+    ensures within { IfSome result (λ n. (1 ≤ n) × (n ≤ 1000000)) }
+{
+    Some(number_from(1, MOST_RATE, word)? as u32)
+}
+
+/// A sample rate of an audio interface, in hertz.
+pub fn sample_rate_of(word: &str) -> Option<u32>
+    ensures number { result ≡ sample_rate_of word.now }
+    ensures within { IfSome result (λ n. (8000 ≤ n) × (n ≤ 192000)) }
+{
+    Some(number_from(LEAST_SAMPLE_RATE, MOST_SAMPLE_RATE, word)? as u32)
+}
+
+/// A sample point, in per mille of a bit.
+pub fn point_of(word: &str) -> Option<u32>
+    ensures number { result ≡ point_of word.now }
+    ensures within { IfSome result (λ n. (1 ≤ n) × (n ≤ 999)) }
+{
+    Some(number_from(1, MOST_PER_MILLE, word)? as u32)
+}
+
+/// The tolerance of a sample point to either side, in per mille of a bit.
+pub fn tolerance_of(word: &str) -> Option<u32>
+    ensures number { result ≡ tolerance_of word.now }
+    ensures within { IfSome result (λ n. n ≤ 999) }
+{
+    Some(number_up_to(MOST_PER_MILLE, word)? as u32)
 }
 
 /// What `--free` sets free.
@@ -58,7 +110,7 @@ fn free_of(word: &str) -> Option<Free>
 }
 
 /// The value, where the word of this number has one.
-fn allowed<T: Drop>(value: Option<T>, word: usize) -> Result<T, UsageFault>
+pub fn allowed<T: Drop>(value: Option<T>, word: usize) -> Result<T, UsageFault>
     ensures { Gives (λ v. v) result (allowed word value) }
 {
     match value {

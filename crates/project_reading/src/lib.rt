@@ -5,3 +5,4 @@ mod projects;
 mod refusals;
 
 pub use projects::{Opened, open_project};
+pub use refusals::refused_table;

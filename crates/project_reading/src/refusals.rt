@@ -12,7 +12,7 @@ use res_base::OutOfMemory;
 use std::alloc::Global;
 
 /// What is said of a refused table.
-pub(crate) fn refused_table(alloc: Global, fault: TableFault) -> Result<Answer, OutOfMemory>
+pub fn refused_table(alloc: Global, fault: TableFault) -> Result<Answer, OutOfMemory>
     ensures { IfOk result (λ a. (fault ≢ TableFault.Memory) × Says a status.TableRefused (table_refusal fault)) }
 {
     let refused = Status::TableRefused;

@@ -1,22 +1,22 @@
 -- What is owed for inputs, from what is owed for their bytes.
-use Rattle.std.proofs.Common.{◌≡◌, ◌≢◌, ◌∙◌, inl, ℕ, zero, suc, ◌+◌, ◌<◌, ◌≤◌, List, [], ◌∷◌, ◌++◌, length, map, Bool, true, false, Option, Some, None, Result, Ok, Err, ap, refl, sym, subst, arith, get_or}
-use Rattle.std.specs.Prelude.{IfOk, MatchBool, MatchOption, codes, nat_lt, slice_index_or, if◌then◌else◌}
+use Rattle.std.proofs.Common.{◌≡◌, ◌≢◌, ◌∙◌, inl, inr, ℕ, zero, suc, ◌+◌, ◌<◌, ◌≤◌, List, [], ◌∷◌, ◌++◌, length, map, Bool, true, false, Option, Some, None, Result, Ok, Err, ap, refl, sym, subst, arith, get_or}
+use Rattle.std.specs.Prelude.{IfOk, IfSome, MatchBool, MatchOption, codes, nat_lt, slice_index_or, if◌then◌else◌}
 use Rattle.std.proofs.lemmas.Bool.Decides.{nat_tests}
-use Rattle.answers.specs.Said.{Says, answered}
+use Rattle.answers.specs.Said.{Says, answered, number_of}
 use Rattle.answers.specs.declared.answer.Answer.{Answer}
 use Rattle.answers.specs.declared.answer.Status.{Status}
-use Rattle.answers.specs.declared.answer.Status.TheVariants.{NotBuilt, OutOfMemory, TooLong, Usage}
-use Rattle.call_io.proofs.ServedLemmas.{answered_for}
-use Rattle.call_io.specs.Gathered.{AllRead, AreSeen, IsOfBytes, IsRead}
-use Rattle.call_io.specs.Inputs.{Files, Input, Reads, Wrote, first_long}
-use Rattle.call_io.specs.Ran.{IsWritten, Served}
-use Rattle.cmd_words.specs.Asked.{workers_asked}
+use Rattle.answers.specs.declared.answer.Status.TheVariants.{NotBuilt, OutOfMemory, ReadFailed, TooLong, Usage}
+use Rattle.call_io.proofs.ServedLemmas.{answered_for, ends_as_usage, two_is_usage, written_is_no_usage}
+use Rattle.call_io.specs.Gathered.{AllRead, AreSeen, IsOfInputs, IsRead}
+use Rattle.call_io.specs.Inputs.{Files, Input, Reads, Wrote, first_long, inputs_told}
+use Rattle.call_io.specs.Ran.{Ended, IsOwn, IsWritten, Served}
+use Rattle.cmd_words.specs.Asked.{inputs_of, workers_asked}
 use Rattle.cmd_words.specs.UsageFaults.{Refuses}
 use Rattle.cmd_words.specs.declared.command.Command.{Command}
 use Rattle.cmd_words.specs.declared.fault.UsageFault.{UsageFault}
 use Rattle.cmd_words.specs.declared.fault.UsageFault.TheVariants as words
 use Rattle.res_base.specs.Lists.{Each}
-use Rattle.resolver.specs.Due.{Due, OfBytes, OfCommand, OfInputs, input_at, names_of, waits}
+use Rattle.resolver.specs.Due.{Due, IsUsage, OfBytes, OfCommand, OfInputs, input_at, names_of, waits}
 use Rattle.resolver.specs.Opening.{AreInputs}
 use Rattle.resolver.specs.Refusals.{words_refusal}
 
@@ -47,6 +47,22 @@ many c inputs a l says = subst (λ (b : Bool). MatchBool b (Says a NotBuilt (cod
     more : (n : ℕ) → 1 < n → nat_lt 1 n ≡ true
     more n k = grind (arith, nat_tests, k)
 
+-- that answer is one that a call gives, whatever the inputs are
+pub unbuilt : (c : Command) (before : Reads) (a : Answer) → 1 < workers_asked c → Says a NotBuilt (codes "not built: workers") → Served (inputs_of c) (OfCommand c) before before a
+unbuilt c before a l says =
+    let status : a.status ≡ NotBuilt = ap (λ (x : Answer). x.status) says in
+    record {
+      own = subst IsOwn (sym status) (record { no_write_fault = λ e. absurd cc; no_memory = λ e. absurd cc });
+      due = λ no. each_told (inputs_told before.files (inputs_of c));
+      failed = λ e. let k : NotBuilt ≡ ReadFailed = sym status ∙ e in absurd cc;
+      too_long = λ e. let k : NotBuilt ≡ TooLong = sym status ∙ e in absurd cc;
+      told = λ built name m over. absurd (built status);
+    }
+  where
+    each_told : (o : Option (List Input)) → IfSome o (λ inputs. OfCommand c inputs a)
+    each_told None = tt
+    each_told (Some inputs) = many c inputs a l says
+
 -- the inputs that were read, as a command takes them
 pub as_inputs : (files : Files) (names read : List (List ℕ)) → AllRead files names read → AreInputs (length names) read
 as_inputs files [] [] h = record { count_is = refl; few = tt }
@@ -67,8 +83,8 @@ pub if_both : {X E : Type 0} (r : Result X E) (P Q R : X → Type 0) → IfOk r 
 if_both (Ok x) P Q R p q f = f x p q
 if_both (Err e) P Q R p q f = tt
 
-usage : (a : Answer) (text : List ℕ) → a ≡ answered Usage text → IsOfBytes a.status
-usage a text e = subst IsOfBytes (sym (ap (λ (x : Answer). x.status) e)) (record { own = record { no_write_fault = λ q. absurd cc; no_memory = λ q. absurd cc }; no_read_fault = λ q. absurd cc; no_length = λ q. absurd cc })
+usage : (a : Answer) (text : List ℕ) → a ≡ answered Usage text → IsOfInputs a.status
+usage a text e = subst IsOfInputs (sym (ap (λ (x : Answer). x.status) e)) (record { own = record { no_write_fault = λ q. absurd cc; no_memory = λ q. absurd cc }; no_read_fault = λ q. absurd cc; no_length = λ q. absurd cc })
 
 -- what is said of words that have no reading
 pub unread_words : (f : UsageFault) (asked : Result Command UsageFault) (r : Reads) (a : Answer) → Refuses f asked → f ≢ words.Memory → Says a Usage (words_refusal f) → Served (names_of asked) (Due asked) r r a
@@ -83,3 +99,28 @@ pub no_waiting : {E : Type 0} (f : UsageFault) (asked : Result Command UsageFaul
 no_waiting (words.Word number) asked r ob oa status h said written differs = ap waits h
 no_waiting words.Memory asked (Ok a) ob oa status h said written differs = absurd (said.0 refl)
 no_waiting words.Memory asked (Err e) ob oa status h said written differs = absurd (differs written.0)
+
+-- ---- status 2
+
+-- the status of a command's answer is another
+pub no_usage : (asked : Result Command UsageFault) (command : Command) (status : Status) → asked ≡ Ok command → status ≢ Usage → IsUsage asked (number_of status)
+no_usage asked command status e differs = record {
+  only = λ two. absurd (differs (two_is_usage status two));
+  always = λ fault unread. let k : Ok command ≡ Err fault = sym e ∙ unread in absurd cc;
+}
+
+-- the status of what is said of words
+pub said_of_words : {E : Type 0} (f : UsageFault) (asked : Result Command UsageFault) (before after : Reads) (r : Result Answer E) (out_before out_after : Wrote) (status : Status)
+    → Refuses f asked → IfOk r (λ a. (f ≢ words.Memory) × Says a Usage (words_refusal f)) → IsWritten r out_before out_after status
+    → Ended (names_of asked) (Due asked) before after out_before out_after status → IsUsage asked (number_of status)
+said_of_words (words.Word number) asked before after r ob oa status h said written ended = record {
+  only = λ two. (words.Word number, h);
+  always = λ fault unread.
+      ends_as_usage (Due (Err fault)) before after ob oa status (λ a says. ap (λ (x : Answer). x.status) says)
+      (subst (λ (q : Result Command UsageFault). Ended (names_of q) (Due q) before after ob oa status) unread ended);
+}
+said_of_words words.Memory asked before after (Ok a) ob oa status h said written ended = absurd (said.0 refl)
+said_of_words words.Memory asked before after (Err e) ob oa status h said written ended = record {
+  only = λ two. let k : 9 ≡ 2 = sym (ap number_of written.0) ∙ two in absurd cc;
+  always = λ fault unread. inr (inr (ap number_of written.0));
+}

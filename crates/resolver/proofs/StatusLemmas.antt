@@ -3,24 +3,38 @@ use Rattle.std.proofs.Common.{◌≡◌, ◌≢◌, ◌∙◌, ℕ, List, Bool, 
 use Rattle.answers.specs.Said.{answered}
 use Rattle.answers.specs.declared.answer.Answer.{Answer}
 use Rattle.answers.specs.declared.answer.Status.{Status}
-use Rattle.answers.specs.declared.answer.Status.TheVariants.{Done, NoChoice, TooWide, TableRefused, ProjectRefused, ProofRefused, ReadFailed, TooLong, WriteFailed, OutOfMemory}
+use Rattle.answers.specs.declared.answer.Status.TheVariants.{Done, NoChoice, TooWide, TableRefused, ProjectRefused, ProofRefused, RequestRefused, ReadFailed, TooLong, WriteFailed, OutOfMemory}
 use Rattle.call_io.specs.Gathered.{IsOfBytes}
+use Rattle.dma_rules.specs.Texts as dma
+use Rattle.dma_model.specs.declared.table.DmaRequest.{DmaRequest}
+use Rattle.i2s_pll.specs.Due as i2s
+use Rattle.res_model.specs.declared.clock.ClockChoice.{ClockChoice}
+use Rattle.res_model.specs.declared.clock.Facts.{Facts}
+use Rattle.res_model.specs.declared.table.TableParts.{TableParts}
+use Rattle.can_timing.specs.Texts as can
+use Rattle.can_timing.specs.declared.request.Request.{Request}
 use Rattle.problem.specs.declared.parts.ProblemParts.{ProblemParts}
 use Rattle.refutation.specs.declared.node.Node.{Node}
 use Rattle.solver.specs.Owed.{OfCase, OfNodes, OfPins, OfProblem, OfProof, OfWhole}
 use Rattle.solver.specs.Owed as owed
 
 done : IsOfBytes Done
-done = record { own = record { no_write_fault = λ e. absurd cc; no_memory = λ e. absurd cc }; no_read_fault = λ e. absurd cc; no_length = λ e. absurd cc }
+done = record { of_inputs = record { own = record { no_write_fault = λ e. absurd cc; no_memory = λ e. absurd cc }; no_read_fault = λ e. absurd cc; no_length = λ e. absurd cc }; no_usage = λ e. absurd cc }
 
 no_choice : IsOfBytes NoChoice
-no_choice = record { own = record { no_write_fault = λ e. absurd cc; no_memory = λ e. absurd cc }; no_read_fault = λ e. absurd cc; no_length = λ e. absurd cc }
+no_choice = record { of_inputs = record { own = record { no_write_fault = λ e. absurd cc; no_memory = λ e. absurd cc }; no_read_fault = λ e. absurd cc; no_length = λ e. absurd cc }; no_usage = λ e. absurd cc }
 
 too_wide : IsOfBytes TooWide
-too_wide = record { own = record { no_write_fault = λ e. absurd cc; no_memory = λ e. absurd cc }; no_read_fault = λ e. absurd cc; no_length = λ e. absurd cc }
+too_wide = record { of_inputs = record { own = record { no_write_fault = λ e. absurd cc; no_memory = λ e. absurd cc }; no_read_fault = λ e. absurd cc; no_length = λ e. absurd cc }; no_usage = λ e. absurd cc }
 
 proof_refused : IsOfBytes ProofRefused
-proof_refused = record { own = record { no_write_fault = λ e. absurd cc; no_memory = λ e. absurd cc }; no_read_fault = λ e. absurd cc; no_length = λ e. absurd cc }
+proof_refused = record { of_inputs = record { own = record { no_write_fault = λ e. absurd cc; no_memory = λ e. absurd cc }; no_read_fault = λ e. absurd cc; no_length = λ e. absurd cc }; no_usage = λ e. absurd cc }
+
+table_refused : IsOfBytes TableRefused
+table_refused = record { of_inputs = record { own = record { no_write_fault = λ e. absurd cc; no_memory = λ e. absurd cc }; no_read_fault = λ e. absurd cc; no_length = λ e. absurd cc }; no_usage = λ e. absurd cc }
+
+request_refused : IsOfBytes RequestRefused
+request_refused = record { of_inputs = record { own = record { no_write_fault = λ e. absurd cc; no_memory = λ e. absurd cc }; no_read_fault = λ e. absurd cc; no_length = λ e. absurd cc }; no_usage = λ e. absurd cc }
 
 -- an answer has the status that it was given
 pub at : (a : Answer) (status : Status) (text : List ℕ) → a ≡ answered status text → IsOfBytes status → IsOfBytes a.status
@@ -38,7 +52,7 @@ of_pins p a (owed.placed c low e) = at a Done _ e done
 of_pins p a (owed.unplaced no_legal says) = at a NoChoice _ says no_choice
 
 pub of_whole : (proof : Bool) (p : ProblemParts) (a : Answer) → OfWhole proof p a → IsOfBytes a.status
-of_whole proof p a (owed.solved c more low sound asked e) = at a Done _ e done
+of_whole proof p a (owed.solved c more low sound read_back asked e) = at a Done _ e done
 of_whole proof p a (owed.refuted text no_legal shown e) = at a NoChoice _ e no_choice
 
 pub of_case : (number : ℕ) (p : ProblemParts) (a : Answer) → OfCase number p a → IsOfBytes a.status
@@ -52,3 +66,21 @@ of_nodes p bound nodes a (owed.accepted e says) = at a Done _ says done
 pub of_proof : (text : List ℕ) (p : ProblemParts) (a : Answer) → OfProof text p a → IsOfBytes a.status
 of_proof text p a (owed.unread line e says) = at a ProofRefused _ says proof_refused
 of_proof text p a (owed.nodes bound read e due) = of_nodes p bound read a due
+
+pub of_can : (q : Request) (a : Answer) → can.IsDue q a → IsOfBytes a.status
+of_can q a (can.found c least e) = at a Done _ e done
+of_can q a (can.refuted text no_legal shown e) = at a NoChoice _ e no_choice
+
+pub of_i2s : (t : TableParts) (f : Facts) (home : ClockChoice) (rate : ℕ) (a : Answer) → i2s.OfI2s t f home rate a → IsOfBytes a.status
+of_i2s t f home rate a (i2s.found x least sound e) = at a Done _ e done
+of_i2s t f home rate a (i2s.unmet no_legal says) = at a NoChoice _ says no_choice
+
+pub of_want : (requests : List DmaRequest) (a : Answer) → dma.OfWant requests a → IsOfBytes a.status
+of_want requests a (dma.served choice least e) = at a Done _ e done
+of_want requests a (dma.refuted text no_legal shown e) = at a NoChoice _ e no_choice
+
+pub of_request : (a : Answer) (text : List ℕ) → a ≡ answered RequestRefused text → IsOfBytes a.status
+of_request a text e = at a RequestRefused text e request_refused
+
+pub of_table : (a : Answer) (text : List ℕ) → a ≡ answered TableRefused text → IsOfBytes a.status
+of_table a text e = at a TableRefused text e table_refused

@@ -1,22 +1,27 @@
 -- The status and the text that are due for words and the inputs that they name, where nothing of the outside fails.
-use Rattle.std.specs.Prelude.{◌≡◌, ℕ, List, [], ◌∷◌, ◌++◌, map, Bool, true, false, nat_lt, Option, Some, None, Result, Ok, Err, MatchResult, MatchOption, MatchBool, codes, decimal, slice_index_or}
+use Rattle.std.specs.Prelude.{◌≡◌, ◌⊎◌, ℕ, List, [], ◌∷◌, ◌++◌, map, Bool, true, false, nat_lt, Option, Some, None, Result, Ok, Err, MatchResult, MatchOption, MatchBool, codes, decimal, slice_index_or}
 use Rattle.answers.specs.Said.{Says, answered}
 use Rattle.answers.specs.declared.answer.Answer.{Answer}
 use Rattle.answers.specs.declared.answer.Status.TheVariants.{Done, Usage, TooLong, NotBuilt}
 use Rattle.call_io.specs.Inputs.{Input, first_long}
+use Rattle.can_timing.specs.Texts as can
+use Rattle.can_timing.specs.declared.request.Request.{Request}
 use Rattle.case_rules.specs.CaseProblem.{case_problem}
 use Rattle.cmd_words.specs.Asked.{inputs_of, may_wait, workers_asked}
 use Rattle.cmd_words.specs.declared.command.Command.{Command}
-use Rattle.cmd_words.specs.declared.command.Command.TheVariants.{Pins, Tree, Resolve, Check, Case}
+use Rattle.cmd_words.specs.declared.command.Command.TheVariants.{Pins, Tree, Resolve, Check, Case, Can, I2s, Dma}
 use Rattle.cmd_words.specs.declared.fault.UsageFault.{UsageFault}
+use Rattle.i2s_pll.specs.Due.{OfI2s}
 use Rattle.problem.specs.Problem.{problem_of}
 use Rattle.problem.specs.declared.parts.Part.TheVariants.{PinsOnly, Whole}
 use Rattle.project_reading.specs.Reading.{project_from}
+use Rattle.res_model.specs.Clock.{facts_of}
 use Rattle.res_model.specs.declared.opts.Opts.{Opts}
 use Rattle.res_model.specs.declared.project.Project.{Project}
 use Rattle.res_model.specs.declared.table.TableParts.{TableParts}
-use Rattle.resolver.specs.HomeTree.{fixed, home_text}
+use Rattle.resolver.specs.HomeTree.{fixed, home_choice, home_nodes, home_text, no_options}
 use Rattle.resolver.specs.Refusals.{words_refusal}
+use Rattle.resolver.specs.Requests.{OfRequestsIn}
 use Rattle.solver.specs.Owed.{OfCase, OfPins, OfProblem, OfProof, OfWhole}
 
 -- the bytes of the input at this place, from 0
@@ -47,6 +52,18 @@ ResolveTask opts proof t p a = OfProblem (problem_of t p opts Whole) (OfWhole pr
 abbrev pub CheckTask : Opts → List ℕ → Task
 CheckTask opts text t p a = OfProblem (problem_of t p opts Whole) (OfProof text (problem_of t p opts Whole)) a
 
+-- what a CAN bus asks for, on PCLK1 of the homes
+abbrev pub bus : TableParts → Project → ℕ → ℕ → ℕ → Request
+bus t p rate point tolerance = record { pclk = (home_nodes t p no_options).pclk1; rate = rate; point = point; tolerance = tolerance }
+
+-- `can`: the least bit timing that serves a bus, or the refutation of all
+abbrev pub CanTask : ℕ → ℕ → ℕ → Task
+CanTask rate point tolerance t p a = can.IsDue (bus t p rate point tolerance) a
+
+-- `i2s`: the PLLI2S of least error for a sample rate, on the homes, or that there is none
+abbrev pub I2sTask : ℕ → Task
+I2sTask rate t p a = OfI2s t (facts_of t p no_options) (home_choice p.clock) rate a
+
 -- what a command owes for the bytes of its inputs. `case` has none: its problem is that of the number
 abbrev pub OfBytes : Command → List (List ℕ) → Answer → Type 0
 OfBytes (Pins tables project opts) files a = OverProject opts false (PinsTask opts) files a
@@ -54,6 +71,9 @@ OfBytes (Tree tables project opts) files a = OverProject (fixed opts) true (Tree
 OfBytes (Resolve tables project opts workers proof) files a = OverProject opts true (ResolveTask opts proof) files a
 OfBytes (Check tables project proof opts) files a = OverProject opts true (CheckTask opts (input_at files 2)) files a
 OfBytes (Case number workers) files a = OfCase number (case_problem number) a
+OfBytes (Can tables project rate point tolerance) files a = OverProject no_options true (CanTask rate point tolerance) files a
+OfBytes (I2s tables project rate) files a = OverProject no_options true (I2sTask rate) files a
+OfBytes (Dma tables requests workers) files a = OfRequestsIn requests (input_at files 0) a
 
 -- each input is read whole before any is looked at
 abbrev pub OfInputs : Command → List Input → Answer → Type 0
@@ -77,3 +97,9 @@ names_of (Err fault) = []
 abbrev pub waits : Result Command UsageFault → Bool
 waits (Ok command) = may_wait command
 waits (Err fault) = false
+
+-- status 2 is that of words that have no reading, and of no others; such words are answered by it, or the text could not be
+-- written (8), or there was no memory (9)
+pub record IsUsage (asked : Result Command UsageFault) (number : ℕ) : Type 0 where
+  pub only : number ≡ 2 → (fault : UsageFault) × (asked ≡ Err fault)
+  pub always : (fault : UsageFault) → asked ≡ Err fault → (number ≡ 2) ⊎ ((number ≡ 8) ⊎ (number ≡ 9))

@@ -1,11 +1,12 @@
 -- The clock tree of a project's homes.
 use Rattle.std.specs.Prelude.{◌≡◌, ◌<◌, ◌==◌, ◌++◌, ℕ, List, [], ◌∷◌, Option, Some, None, codes, decimal, slice_index_or, if◌then◌else◌}
-use Rattle.res_model.specs.Clock.{IsInRange, facts_of, hclk_of}
+use Rattle.res_model.specs.Clock.{IsInRange, facts_of, hclk_of, nodes_of}
 use Rattle.clock_tree.specs.ClockText.{clock_text}
 use Rattle.res_model.specs.Limits.{broken_limit}
 use Rattle.res_model.specs.Power.{wait_of}
 use Rattle.res_model.specs.declared.clock.ClockChoice.{ClockChoice}
 use Rattle.res_model.specs.declared.clock.Facts.{Facts}
+use Rattle.res_model.specs.declared.clock.Nodes.{Nodes}
 use Rattle.res_model.specs.declared.clock.Src.{Src}
 use Rattle.res_model.specs.declared.clock.Src.TheVariants.{Hsi, Hse, Pll}
 use Rattle.res_model.specs.declared.opts.Free.TheVariants.{Pins}
@@ -44,12 +45,20 @@ limits_line (Some limit) = codes "limits broken L " ++ decimal limit
 unfoldable pub choice_text : TableParts → Facts → ClockChoice → List ℕ
 choice_text t f c = clock_text f c (wait_of t f.vdd (hclk_of f c)) ++ limits_line (broken_limit t f c) ++ 10 ∷ []
 
+-- the nodes of the homes
+abbrev pub home_nodes : TableParts → Project → Opts → Nodes
+home_nodes t p opts = nodes_of (facts_of t p opts) (home_choice p.clock)
+
 abbrev pub home_text : TableParts → Project → Opts → List ℕ
 home_text t p opts = choice_text t (facts_of t p opts) (home_choice p.clock)
 
 -- the tree is read with fixed clocks
 abbrev pub fixed : Opts → Opts
 fixed opts = record opts { free = Pins }
+
+-- the options of a command that takes none: nothing is needed or wished, and the clocks are fixed
+abbrev pub no_options : Opts
+no_options = record { vdd = 3300; needs = []; hclk = None; pclk1 = None; pclk2 = None; free = Pins }
 
 -- the homes of a project that was read so are a choice that a table may allow, and its scale is a byte
 pub record AreHomes (homes : List Home) : Type 0 where

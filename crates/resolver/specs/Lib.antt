@@ -2,3 +2,4 @@ pub mod Due
 pub mod HomeTree
 pub mod Opening
 pub mod Refusals
+pub mod Requests

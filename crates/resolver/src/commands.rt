@@ -5,6 +5,7 @@ ghost use Rattle.call_io.specs.Gathered.{IsOfBytes};
 ghost use Rattle.case_rules.specs.CaseProblem.{case_problem};
 ghost use Rattle.case_rules.specs.Options.{case_opts};
 ghost use Rattle.cmd_words.specs.Asked.{inputs_of};
+ghost use Rattle.cmd_words.specs.Words.{IsWithinLimits};
 ghost use Rattle.ioc_project.specs.Read.{IsRead};
 ghost use Rattle.resolver.specs.Due.{CheckTask, OfBytes, OverProject, PinsTask, ResolveTask, TreeTask, input_at};
 ghost use Rattle.resolver.specs.HomeTree.{fixed};
@@ -13,6 +14,8 @@ ghost use Rattle.resolver.specs.Opening.{AreInputs, CaseTask, OfTexts};
 ghost use Rattle.solver.specs.Owed.{OfCase};
 
 use crate::home_tree::{hertz_fit, home_text};
+use crate::on_homes::{can, i2s};
+use crate::streams::dma;
 use answers::{Answer, Status};
 use big_case::{Case, make_case};
 use case_rules::project_is_short;
@@ -23,7 +26,7 @@ use res_model::{Free, Opts, Project, Tables};
 use std::alloc::Global;
 
 /// The bytes of the input at this place.
-fn input_at(files: &[Items<u8>], place: usize, _count: usize) -> &[u8]
+pub(crate) fn input_at(files: &[Items<u8>], place: usize, _count: usize) -> &[u8]
     requires files { AreInputs _count files.now }
     requires place { place < _count }
     ensures bytes { result.now ≡ input_at files.now place }
@@ -239,7 +242,8 @@ pub(crate) fn of_bytes(
     command: Command,
     files: &[Items<u8>],
 ) -> Result<Answer, OutOfMemory>
-    requires { AreInputs (length (inputs_of command)) files.now }
+    requires files { AreInputs (length (inputs_of command)) files.now }
+    requires limits { IsWithinLimits command }
     ensures due { IfOk result (OfBytes command files.now) }
     ensures status { IfOk result (λ a. IsOfBytes a.status) }
 {
@@ -249,5 +253,13 @@ pub(crate) fn of_bytes(
         Command::Resolve { opts, proof, .. } => resolve(alloc, files, &opts, proof),
         Command::Check { opts, .. } => check(alloc, files, &opts),
         Command::Case { number, .. } => made_case(alloc, number),
+        Command::Can {
+            rate,
+            point,
+            tolerance,
+            ..
+        } => can(alloc, files, rate, point, tolerance),
+        Command::I2s { rate, .. } => i2s(alloc, files, rate),
+        Command::Dma { requests, .. } => dma(alloc, files, requests.as_slice()),
     }
 }

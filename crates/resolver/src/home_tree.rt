@@ -5,14 +5,14 @@ ghost use Rattle.res_model.specs.declared.opts.Free.TheVariants.{Pins};
 ghost use Rattle.ioc_project.specs.Read.{IsRead};
 ghost use Rattle.ioc_project.specs.Project.{all_within, domain_tests};
 ghost use Rattle.res_model.specs.Power.{wait_of};
-ghost use Rattle.resolver.specs.HomeTree.{AreHomes, choice_text, home_at, home_choice, home_text, limits_line, source_of};
+ghost use Rattle.resolver.specs.HomeTree.{AreHomes, choice_text, home_at, home_choice, home_nodes, home_text, limits_line, source_of};
 
 use clock_limits::broken;
 use clock_tree::{nodes, tree_text};
 use ioc_project::facts;
 use power_flash::least_wait;
 use res_base::OutOfMemory;
-use res_model::{ClockChoice, Facts, Home, Opts, Project, Src, Tables};
+use res_model::{ClockChoice, Facts, Home, Nodes, Opts, Project, Src, Tables};
 use std::alloc::{AllocError, Global};
 
 fn source_of(code: u64) -> Src
@@ -108,6 +108,29 @@ fn facts_fit(t: &Tables, p: &Project, opts: &Opts) -> Facts
     facts(t, p, opts)
 }
 
+/// The clocks of a project's homes: what is known of them, and the choice that leaves them there.
+pub(crate) struct Homes {
+    pub facts: Facts,
+    pub choice: ClockChoice,
+}
+
+/// The homes of a project's clocks.
+pub(crate) fn homes_of(t: &Tables, p: &Project, opts: &Opts) -> Homes
+    requires read { IsRead t.now opts.now true p.now }
+    requires fixed { opts.now.free ≡ Pins }
+    ensures facts { result.facts ≡ facts_of t.now p.now opts.now }
+    ensures choice { result.choice ≡ home_choice p.now.clock }
+    ensures fit { AreFacts result.facts }
+    ensures in_range { IsInRange result.choice }
+{
+    hertz_fit(t);
+    homes_fit(t, &p.clock);
+    Homes {
+        facts: facts_fit(t, p, opts),
+        choice: home_choice(&p.clock),
+    }
+}
+
 /// The clock tree of a project's homes, and the least limit that it breaks.
 pub(crate) fn home_text(
     alloc: Global,
@@ -119,9 +142,16 @@ pub(crate) fn home_text(
     requires fixed { opts.now.free ≡ Pins }
     ensures { IfOk result (λ x. x.items ≡ home_text t.now p.now opts.now) }
 {
-    hertz_fit(t);
-    homes_fit(t, &p.clock);
-    let f = facts_fit(t, p, opts);
-    let c = home_choice(&p.clock);
-    choice_text(alloc, t, &f, &c)
+    let Homes { facts, choice } = homes_of(t, p, opts);
+    choice_text(alloc, t, &facts, &choice)
+}
+
+/// The nodes of a project's homes.
+pub(crate) fn home_nodes(t: &Tables, p: &Project, opts: &Opts) -> Nodes
+    requires read { IsRead t.now opts.now true p.now }
+    requires fixed { opts.now.free ≡ Pins }
+    ensures { result ≡ home_nodes t.now p.now opts.now }
+{
+    let Homes { facts, choice } = homes_of(t, p, opts);
+    nodes(&facts, &choice)
 }

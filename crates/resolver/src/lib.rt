@@ -3,10 +3,12 @@
 
 mod commands;
 mod home_tree;
+mod on_homes;
 mod refusals;
+mod streams;
 mod top;
 
-pub use top::{run, run_plain, run_surely};
+pub use top::{run, run_all_surely, run_plain, run_surely};
 
 #[cfg(test)]
 mod tests;

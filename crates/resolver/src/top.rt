@@ -1,15 +1,16 @@
 //! The top call.
 ghost use Rattle.std.specs.Prelude.{◌≡◌, ◌≢◌, ◌≤◌, Option, Some, None, Result, Ok, Err, length, map, string_bytes, true, false, IfOk, IfSome, IfNone};
+ghost use Rattle.answers.specs.Said.{number_of};
 ghost use Rattle.answers.specs.declared.answer.Status.TheVariants as status;
 ghost use Rattle.call_io.specs.Inputs.{Reads, reads, wrote};
-ghost use Rattle.call_io.specs.Ran.{Answers, Ended, Ran, Served};
+ghost use Rattle.call_io.specs.Ran.{Answers, Ended, NoneFailed, Ran, Served};
 ghost use Rattle.cmd_words.specs.Asked.{inputs_of, workers_asked};
 ghost use Rattle.cmd_words.specs.UsageFaults.{Refuses};
-ghost use Rattle.cmd_words.specs.Words.{command_of};
+ghost use Rattle.cmd_words.specs.Words.{IsWithinLimits, command_of};
 ghost use Rattle.cmd_words.specs.declared.command.Command.{Command};
 ghost use Rattle.cmd_words.specs.declared.fault.UsageFault.{UsageFault};
 ghost use Rattle.res_io.specs.Files.{bytes_in};
-ghost use Rattle.resolver.specs.Due.{Due, OfCommand, names_of, waits};
+ghost use Rattle.resolver.specs.Due.{Due, IsUsage, OfCommand, names_of, waits};
 
 use crate::commands::of_bytes;
 use crate::refusals::refused_words;
@@ -31,9 +32,11 @@ fn answer_over<I: Inputs>(
 ) -> Result<Answer, OutOfMemory>
     requires names { names.now ≡ inputs_of command }
     requires alone { workers_asked command ≤ 1 }
-    ensures { IfOk result (Served (inputs_of command) (OfCommand command)
+    requires limits { IsWithinLimits command }
+    ensures served { IfOk result (Served (inputs_of command) (OfCommand command)
         (reads (I.files inputs.old) (I.faults inputs.old) (I.current inputs.old) (I.taken inputs.old))
         (reads (I.files inputs.new) (I.faults inputs.new) (I.current inputs.new) (I.taken inputs.new))) }
+    ensures no_usage { IfOk result (λ a. a.status ≢ status.Usage) }
 {
     match gather(alloc, inputs, names)? {
         Gathered::Files(files) => of_bytes(alloc, command, files.as_slice()),
@@ -43,9 +46,11 @@ fn answer_over<I: Inputs>(
 
 /// Reads what a command reads, and makes its answer.
 fn answer<I: Inputs>(alloc: Global, command: Command, inputs: &mut I) -> Result<Answer, OutOfMemory>
-    ensures { IfOk result (Served (inputs_of command) (OfCommand command)
+    requires { IsWithinLimits command }
+    ensures served { IfOk result (Served (inputs_of command) (OfCommand command)
         (reads (I.files inputs.old) (I.faults inputs.old) (I.current inputs.old) (I.taken inputs.old))
         (reads (I.files inputs.new) (I.faults inputs.new) (I.current inputs.new) (I.taken inputs.new))) }
+    ensures no_usage { IfOk result (λ a. a.status ≢ status.Usage) }
 {
     if command.workers() > 1 {
         return says(alloc, Status::NotBuilt, "not built: workers");
@@ -56,10 +61,12 @@ fn answer<I: Inputs>(alloc: Global, command: Command, inputs: &mut I) -> Result<
 
 /// Does what a command asks for.
 fn serve<I: Inputs, K: Sink>(alloc: Global, command: Command, inputs: &mut I, out: &mut K) -> Status
-    ensures { Ended (inputs_of command) (OfCommand command)
+    requires { IsWithinLimits command }
+    ensures ended { Ended (inputs_of command) (OfCommand command)
         (reads (I.files inputs.old) (I.faults inputs.old) (I.current inputs.old) (I.taken inputs.old))
         (reads (I.files inputs.new) (I.faults inputs.new) (I.current inputs.new) (I.taken inputs.new))
         (wrote (K.written out.old) (K.faults out.old)) (wrote (K.written out.new) (K.faults out.new)) result }
+    ensures no_usage { result ≢ status.Usage }
 {
     let answer = answer(alloc, command, inputs);
     write_answer(out, &answer)
@@ -69,6 +76,7 @@ fn serve<I: Inputs, K: Sink>(alloc: Global, command: Command, inputs: &mut I, ou
 fn refuse<K: Sink>(alloc: Global, fault: UsageFault, out: &mut K) -> Status
     ensures said { (asked : Result Command UsageFault) → Refuses fault asked → (r : Reads) → Ended (names_of asked) (Due asked) r r
         (wrote (K.written out.old) (K.faults out.old)) (wrote (K.written out.new) (K.faults out.new)) result }
+    ensures usage { (asked : Result Command UsageFault) → Refuses fault asked → IsUsage asked (number_of result) }
     ensures waits { (asked : Result Command UsageFault) → Refuses fault asked → result ≢ status.OutOfMemory → waits asked ≡ false }
 {
     let answer = refused_words(alloc, fault);
@@ -77,7 +85,7 @@ fn refuse<K: Sink>(alloc: Global, fault: UsageFault, out: &mut K) -> Status
 
 /// Does what the words ask for, and answers the status. The whole text is made before its first byte is written.
 ///
-/// The answer is None for the commands that may start threads, `resolve` and `case`: nothing is read or written then.
+/// The answer is None for the commands that may start threads, `resolve`, `case` and `dma`: nothing is read or written then.
 pub fn run_plain<I: Inputs, K: Sink>(
     alloc: Global,
     words: &[String],
@@ -92,6 +100,12 @@ pub fn run_plain<I: Inputs, K: Sink>(
         (reads (I.files inputs.old) (I.faults inputs.old) (I.current inputs.old) (I.taken inputs.old))
         (reads (I.files inputs.new) (I.faults inputs.new) (I.current inputs.new) (I.taken inputs.new))
         (wrote (K.written out.old) (K.faults out.old)) (wrote (K.written out.new) (K.faults out.new))) }
+    ensures complete { NoneFailed (names_of (command_of (map string_bytes words.now)))
+        (reads (I.files inputs.old) (I.faults inputs.old) (I.current inputs.old) (I.taken inputs.old))
+        (reads (I.files inputs.new) (I.faults inputs.new) (I.current inputs.new) (I.taken inputs.new))
+        (wrote (K.written out.old) (K.faults out.old)) (wrote (K.written out.new) (K.faults out.new))
+        → IfSome result (Answers (I.files inputs.old) (names_of (command_of (map string_bytes words.now))) (Due (command_of (map string_bytes words.now)))) }
+    ensures usage { IfSome result (IsUsage (command_of (map string_bytes words.now))) }
 {
     match read_words(alloc, words) {
         Ok(command) => {
@@ -132,9 +146,29 @@ pub fn run<R: Threads + Wait + Sync, I: Inputs, K: Sink, G: Gate + Sync>(
         (reads (I.files inputs.old) (I.faults inputs.old) (I.current inputs.old) (I.taken inputs.old))
         (reads (I.files inputs.new) (I.faults inputs.new) (I.current inputs.new) (I.taken inputs.new))
         (wrote (K.written out.old) (K.faults out.old)) (wrote (K.written out.new) (K.faults out.new)) result }
+    ensures complete { NoneFailed (names_of (command_of (map string_bytes words.now)))
+        (reads (I.files inputs.old) (I.faults inputs.old) (I.current inputs.old) (I.taken inputs.old))
+        (reads (I.files inputs.new) (I.faults inputs.new) (I.current inputs.new) (I.taken inputs.new))
+        (wrote (K.written out.old) (K.faults out.old)) (wrote (K.written out.new) (K.faults out.new))
+        → Answers (I.files inputs.old) (names_of (command_of (map string_bytes words.now))) (Due (command_of (map string_bytes words.now))) result }
+    ensures usage { IsUsage (command_of (map string_bytes words.now)) result }
 {
     match read_words(alloc, words) {
         Ok(command) => serve(alloc, command, inputs, out).number(),
         Err(fault) => refuse(alloc, fault, out).number(),
     }
+}
+
+/// The same over inputs and a sink that never fail: the answer is the one that is due, or 9.
+pub fn run_all_surely<R: Threads + Wait + Sync, G: Gate + Sync>(
+    rt: &R,
+    alloc: Global,
+    words: &[String],
+    inputs: &mut SureInputs,
+    out: &mut SureSink,
+    gate: &G,
+) -> u8
+    ensures answers { Answers (Some (bytes_in inputs.old.files)) (names_of (command_of (map string_bytes words.now))) (Due (command_of (map string_bytes words.now))) result }
+{
+    run(rt, alloc, words, inputs, out, gate)
 }

@@ -1,3 +1,4 @@
+//! What is due for a request.
 ghost use Rattle.std.specs.Prelude.{◌≡◌, ◌++◌, None, Some, IfOk, OnOk};
 ghost use Rattle.choice_rank.specs.Choices.{IsChoice, rank_of};
 ghost use Rattle.choice_rank.specs.Least.{IsAnswer};
@@ -11,18 +12,12 @@ use crate::least::least_of;
 use crate::lines::{point_line, put_btr_line, rank_line, rate_line, segments_line};
 use crate::request::Request;
 use crate::timing::{Timing, timing_of};
+use answers::{Answer, Status};
 use refutation::{canonical, write_proof};
-use res_base::{OutOfMemory, Ratio};
+use res_base::{Items, OutOfMemory, Ratio};
 use search_api::{Judge, Outcome};
 use serial_search::search;
 use std::alloc::Global;
-
-/// A status and the text that goes with it.
-#[derive(Debug, Drop)]
-pub struct CanAnswer {
-    pub status: u8,
-    pub text: Vec<u8>,
-}
 
 /// The bit timing that serves a request, or the proof that none does.
 ///
@@ -35,8 +30,8 @@ pub fn answer(
     rate: u32,
     point: u32,
     tolerance: u32,
-) -> Result<CanAnswer, OutOfMemory>
-    ensures { IfOk result (λ a. IsDue record { pclk = pclk; rate = rate; point = point; tolerance = tolerance } a.status a.text.items) }
+) -> Result<Answer, OutOfMemory>
+    ensures { IfOk result (λ a. IsDue record { pclk = pclk; rate = rate; point = point; tolerance = tolerance } a) }
 {
     let judge = CanJudge::new(alloc, pclk, rate, point, tolerance)?;
     let outcome = search(alloc, &judge)?;
@@ -47,24 +42,30 @@ pub fn answer(
 }
 
 /// What is due where a rank is the least.
-fn found(alloc: Global, j: &CanJudge, rank: u64) -> Result<CanAnswer, OutOfMemory>
+fn found(alloc: Global, j: &CanJudge, rank: u64) -> Result<Answer, OutOfMemory>
     requires { IsAnswer can_shape (legal j.now.request) (Some rank) }
-    ensures { IfOk result (λ a. IsDue j.now.request a.status a.text.items) }
+    ensures { IfOk result (λ a. IsDue j.now.request a) }
 {
     let at = least_of(alloc, j.shape(), rank)?;
     let text = can_text(alloc, j, at.as_slice())?;
-    Ok(CanAnswer { status: 0, text })
+    Ok(Answer {
+        status: Status::Done,
+        text: Items::of(text),
+    })
 }
 
 /// What is due where no choice serves.
-fn refuted(alloc: Global, j: &CanJudge, o: &Outcome) -> Result<CanAnswer, OutOfMemory>
+fn refuted(alloc: Global, j: &CanJudge, o: &Outcome) -> Result<Answer, OutOfMemory>
     requires accounted { Accounted (can_meaning j.now.request) o.now.best o.now.kept o.now.closed }
     requires none { o.now.best ≡ None }
     requires answer { IsAnswer can_shape (legal j.now.request) None }
-    ensures { IfOk result (λ a. IsDue j.now.request a.status a.text.items) }
+    ensures { IfOk result (λ a. IsDue j.now.request a) }
 {
     let text = refutation_text(alloc, j, o)?;
-    Ok(CanAnswer { status: 1, text })
+    Ok(Answer {
+        status: Status::NoChoice,
+        text: Items::of(text),
+    })
 }
 
 /// The text of the canonical proof of an outcome without a best rank.

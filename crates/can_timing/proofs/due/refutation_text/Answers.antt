@@ -8,7 +8,7 @@ use Rattle.refutation.proofs.FromLemmas.{owned, sound}
 use Rattle.search_api.specs.Meaning.{Meaning}
 use Rattle.can_timing.specs.Judged.{can_meaning}
 use Rattle.can_timing.specs.Lawful.{can_lawful}
-use Rattle.can_timing.proofs.answers.refutation_text.Goals as goal
+use Rattle.can_timing.proofs.due.refutation_text.Goals as goal
 
 pub returns : goal.returns
 returns c =

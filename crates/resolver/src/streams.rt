@@ -1,0 +1,48 @@
+//! Streams for DMA requests.
+ghost use Rattle.std.specs.Prelude.{◌≡◌, ◌≤◌, length, IfOk};
+ghost use Rattle.call_io.specs.Gathered.{IsOfBytes};
+ghost use Rattle.resolver.specs.Due.{input_at};
+ghost use Rattle.resolver.specs.Opening.{AreInputs};
+ghost use Rattle.resolver.specs.Requests.{OfRequests, OfRequestsIn};
+
+use crate::commands::input_at;
+use answers::{Answer, Status, counts};
+use dma_model::DmaTable;
+use dma_rules::{DmaFault, DmaWant, dma_answer};
+use dma_table::read_dma;
+use project_reading::refused_table;
+use res_base::{Items, OutOfMemory, Text};
+use std::alloc::Global;
+
+/// What is due for the requests that words name.
+fn requested(alloc: Global, table: &DmaTable, words: &[Text]) -> Result<Answer, OutOfMemory>
+    requires some { 1 ≤ length words.now }
+    requires few { length words.now ≤ 16 }
+    ensures due { IfOk result (OfRequests words.now table.now) }
+    ensures status { IfOk result (λ a. IsOfBytes a.status) }
+{
+    match DmaWant::new(alloc, table, words) {
+        Ok(want) => dma_answer(alloc, want),
+        Err(DmaFault::Request { number }) => counts(
+            alloc,
+            Status::RequestRefused,
+            "dma: request ",
+            number as u64,
+        ),
+        Err(DmaFault::Memory) => Err(OutOfMemory),
+    }
+}
+
+/// `dma`: streams for requests.
+pub(crate) fn dma(alloc: Global, files: &[Items<u8>], words: &[Text]) -> Result<Answer, OutOfMemory>
+    requires files { AreInputs 1 files.now }
+    requires some { 1 ≤ length words.now }
+    requires few { length words.now ≤ 16 }
+    ensures due { IfOk result (OfRequestsIn words.now (input_at files.now 0)) }
+    ensures status { IfOk result (λ a. IsOfBytes a.status) }
+{
+    match read_dma(alloc, input_at(files, 0, 1)) {
+        Ok(table) => requested(alloc, &table, words),
+        Err(fault) => refused_table(alloc, fault),
+    }
+}
