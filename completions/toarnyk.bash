@@ -14,7 +14,7 @@ _toarnyk_signals() {
 }
 
 _toarnyk() {
-    local IFS=$' \t\n' commands='pins tree resolve check case code lint view install help'
+    local IFS=$' \t\n' commands='pins tree resolve check case can i2s dma code lint view install help'
     local word=${COMP_WORDS[COMP_CWORD]} before=${COMP_WORDS[COMP_CWORD - 1]} first=1 options='' names=0
     COMPREPLY=()
     [ "${COMP_WORDS[1]}" != --quiet ] || first=2
@@ -29,6 +29,7 @@ _toarnyk() {
         resolve) options="--vdd --need --hclk --pclk1 --pclk2 --free --workers --proof" ;;
         check) options="--vdd --need --hclk --pclk1 --pclk2 --free" ;;
         case) options="--workers" ;;
+        dma) options="--workers" ;;
         code) options="--vdd --need --hclk --pclk1 --pclk2 --free --workers -o" ;;
         lint) options="--need --off" ;;
         view) options="--vdd --need --hclk --pclk1 --pclk2 --free --workers" ;;
@@ -39,6 +40,9 @@ _toarnyk() {
         resolve) names=2 ;;
         check) names=3 ;;
         case) names=1 ;;
+        can) names=5 ;;
+        i2s) names=3 ;;
+        dma) names=2 ;;
         code) names=2 ;;
         lint) names=2 ;;
         view) names=2 ;;
@@ -71,6 +75,16 @@ _toarnyk() {
         check:2) _toarnyk_files ioc ;;
         check:3) _toarnyk_files '*' ;;
         case:1) : ;;
+        can:1) _toarnyk_files json ;;
+        can:2) _toarnyk_files ioc ;;
+        can:3) : ;;
+        can:4) : ;;
+        can:5) : ;;
+        i2s:1) _toarnyk_files json ;;
+        i2s:2) _toarnyk_files ioc ;;
+        i2s:3) : ;;
+        dma:1) _toarnyk_files json ;;
+        dma:2) : ;;
         code:1) _toarnyk_files json ;;
         code:2) _toarnyk_files ioc ;;
         lint:1) _toarnyk_files json ;;

@@ -9,13 +9,16 @@ _toarnyk_signals() {
 _toarnyk() {
     local -a commands options described
     local first=2 names=0
-    commands=(pins tree resolve check case code lint view install help)
+    commands=(pins tree resolve check case can i2s dma code lint view install help)
     described=(
         'pins:where each signal sits, and what must move when one more is needed'
         'tree:what the projects clock tree runs at, and the first limit that it breaks'
         'resolve:pins and clocks that meet every limit with the fewest changes, and a C function that sets them up'
         'check:whether a refutation, or the proof behind a report, holds'
         'case:solves a problem made from a number, which needs no files'
+        'can:the bit timing of a CAN bus, for an exact rate and a sample point'
+        'i2s:the PLLI2S for a sample rate, with the error that is left, and the C lines that set it up'
+        'dma:a DMA stream for each request, or why they cannot all have one'
         'code:the C text of `resolve` alone, and on success alone'
         'lint:what the program takes as it stands and a person may not have meant'
         'view:one HTML page with the package, the clock tree and the C text'
@@ -34,6 +37,7 @@ _toarnyk() {
         resolve) options=(--vdd --need --hclk --pclk1 --pclk2 --free --workers --proof) ;;
         check) options=(--vdd --need --hclk --pclk1 --pclk2 --free) ;;
         case) options=(--workers) ;;
+        dma) options=(--workers) ;;
         code) options=(--vdd --need --hclk --pclk1 --pclk2 --free --workers -o) ;;
         lint) options=(--need --off) ;;
         view) options=(--vdd --need --hclk --pclk1 --pclk2 --free --workers) ;;
@@ -44,6 +48,9 @@ _toarnyk() {
         resolve) names=2 ;;
         check) names=3 ;;
         case) names=1 ;;
+        can) names=5 ;;
+        i2s) names=3 ;;
+        dma) names=2 ;;
         code) names=2 ;;
         lint) names=2 ;;
         view) names=2 ;;
@@ -76,6 +83,16 @@ _toarnyk() {
         check:2) _files -g '*.ioc(-.)' ;;
         check:3) _files ;;
         case:1) _message number ;;
+        can:1) _files -g '*.json(-.)' ;;
+        can:2) _files -g '*.ioc(-.)' ;;
+        can:3) _message number ;;
+        can:4) _message number ;;
+        can:5) _message number ;;
+        i2s:1) _files -g '*.json(-.)' ;;
+        i2s:2) _files -g '*.ioc(-.)' ;;
+        i2s:3) _message number ;;
+        dma:1) _files -g '*.json(-.)' ;;
+        dma:2) _message number ;;
         code:1) _files -g '*.json(-.)' ;;
         code:2) _files -g '*.ioc(-.)' ;;
         lint:1) _files -g '*.json(-.)' ;;

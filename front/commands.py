@@ -89,6 +89,26 @@ COMMANDS = {
             "tells what the machine does, and the answer is proved to be the least one like any other.",
             "case 7", True),
         Command(
+            "can", ("TABLE", "PROJECT", "RATE", "POINT", "TOLERANCE"), (),
+            "the bit timing of a CAN bus, for an exact rate and a sample point",
+            "RATE is in bits per second, POINT and TOLERANCE are in per mille of a bit. The clock is PCLK1 of the project's "
+            "tree, and the rate is met exactly or not at all. Prints the timing with the least prescaler, then the least first "
+            "segment, and CAN_BTR; where there is none, a proof of that with status 1.",
+            "can examples/sample.json examples/discovery.ioc 500000 875 20", True),
+        Command(
+            "i2s", ("TABLE", "PROJECT", "RATE"), (),
+            "the PLLI2S for a sample rate, with the error that is left, and the C lines that set it up",
+            "RATE is the sample rate in hertz, with the master clock. The source and the divider M are those of the project. "
+            "Prints the choice whose rate is nearest, by exact fractions, with I2SPR and the writes; where no choice keeps the "
+            "limits, `no choice` with status 1.",
+            "i2s examples/sample.json examples/discovery.ioc 48000", True),
+        Command(
+            "dma", ("TABLE", "REQUEST.."), ("--workers",),
+            "a DMA stream for each request, or why they cannot all have one",
+            "1 to 16 requests of the table, such as SPI1_RX. Prints the least choice, a line a request: a request has its first "
+            "row where it can. Where two want one stream and there is no way out, a proof of that with status 1.",
+            "dma tables/STM32F407VG.json SPI1_RX ADC1 USART1_RX", True),
+        Command(
             "code", ("TABLE", "PROJECT"), SHARED + ("--workers", "-o"),
             "the C text of `resolve` alone, and on success alone",
             "Where `resolve` refuses, nothing goes to standard output or into the file, its line goes to standard "
@@ -117,9 +137,21 @@ COMMANDS = {
     )
 }
 
+# the names of `dma` behind its table
+REQUESTS = "REQUEST.."
+
+# the names that are numbers, with the least and the greatest
+NUMBERS = {
+    ("case", "NUMBER"): (0, 18_446_744_073_709_551_615),
+    ("can", "RATE"): (1, 1_000_000),
+    ("can", "POINT"): (1, 999),
+    ("can", "TOLERANCE"): (0, 999),
+    ("i2s", "RATE"): (8_000, 192_000),
+}
+
 STATUSES = (
     Status(0, "answered", "the placement, the tree, the report, or `accepted: ..`"),
-    Status(1, "nothing fits", "`no choice`; for `resolve` the refutation"),
+    Status(1, "nothing fits", "`no choice`; for `resolve`, `can` and `dma` the refutation"),
     Status(2, "the words are not of the grammar", "`usage: word N`"),
     Status(3, "an input could not be read", "`read failed: NAME`"),
     Status(4, "an input has more than 67,108,864 bytes", "`too long: NAME`"),
@@ -130,6 +162,7 @@ STATUSES = (
     Status(9, "out of memory", "nothing"),
     Status(10, "the proof is not accepted", "`proof: line N` or `proof: node N`"),
     Status(11, "not built", "`not built: workers`"),
+    Status(13, "a DMA request that the table does not have, or that is asked for twice", "`dma: request N`"),
     Status(20, "the system did not hand over the words", "nothing"),
 )
 
@@ -137,6 +170,11 @@ ENVIRONMENT = (
     ("TOARNYK_HINTS=no", "nothing is added to what the program prints (as with --quiet before the command)"),
     ("NO_COLOR", "no colour on a terminal"),
 )
+
+
+def is_file(command, name):
+    """Whether a name of a command is that of a file."""
+    return (command.name, name) not in NUMBERS and name != REQUESTS
 
 
 def has(name):

@@ -138,6 +138,20 @@ def line_text(one):
     return f" (line {one.line})" if one.line else " (needed)"
 
 
+# ---- 13 ----
+
+
+def of_request(words, line):
+    """The request that the table does not have, and the nearest ones; or that it was asked for before."""
+    number = int(line.rpartition(" ")[2])
+    request = words[1 + number]
+    title = f"{blocks.quoted(request)} is no DMA request of the table"
+    if request in words[2 : 1 + number]:
+        return blocks.Block(f"the DMA request {blocks.quoted(request)} is asked for twice", None, ())
+    near = nearest(request, tables.dma_requests(words[1]))
+    return blocks.Block(title, None, ("the nearest: " + blocks.listed(near),) if near else ())
+
+
 # ---- 1 ----
 
 

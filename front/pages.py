@@ -104,6 +104,10 @@ def role_pairs():
             yield f"{command.name}:{place}", name.strip("[]")
 
 
+def is_number(place, role):
+    return (place.partition(":")[0], role) in commands.NUMBERS or role == commands.REQUESTS
+
+
 def value_pairs():
     for option in commands.OPTIONS.values():
         if option.value is not None:
@@ -122,7 +126,6 @@ BASH_ROLES = {
     "PROOF": "_toarnyk_files '*'",
     "PREFIX": 'COMPREPLY=($(compgen -d -- "$word"))',
     "COMMAND": 'COMPREPLY=($(compgen -W "$commands" -- "$word"))',
-    "NUMBER": ":",
 }
 
 SIGNALS = r"""sed -n 's/.*"name": *"\([^"]*\)".*"at": *\[.*/\1/p'"""
@@ -133,7 +136,7 @@ def bash():
     options = cases("        ", ((command.name, f'options="{" ".join(command.options)}"') for command in commands.COMMANDS.values() if command.options))
     names = cases("        ", ((command.name, f"names={len(command.names)}") for command in commands.COMMANDS.values()))
     values = cases("        ", ((name, bash_value(option)) for name, option in value_pairs()))
-    roles = cases("        ", ((place, BASH_ROLES.get(role, BASH_ROLES["PROOF"])) for place, role in role_pairs()))
+    roles = cases("        ", ((place, ":" if is_number(place, role) else BASH_ROLES.get(role, BASH_ROLES["PROOF"])) for place, role in role_pairs()))
     return head + BASH.replace("@COMMANDS@", " ".join(commands.COMMANDS)).replace("@OPTIONS@", options).replace(
         "@NAMES@", names).replace("@VALUES@", values).replace("@ROLES@", roles).replace("@SIGNALS@", SIGNALS)
 
@@ -194,7 +197,6 @@ ZSH_ROLES = {
     "PROOF": "_files",
     "PREFIX": "_files -/",
     "COMMAND": "compadd -a commands",
-    "NUMBER": "_message number",
 }
 
 
@@ -204,7 +206,7 @@ def zsh():
     options = cases("        ", ((command.name, "options=(" + " ".join(command.options) + ")") for command in commands.COMMANDS.values() if command.options))
     names = cases("        ", ((command.name, f"names={len(command.names)}") for command in commands.COMMANDS.values()))
     values = cases("            ", ((name, zsh_value(option)) for name, option in value_pairs()))
-    roles = cases("        ", ((place, ZSH_ROLES.get(role, ZSH_ROLES["PROOF"])) for place, role in role_pairs()))
+    roles = cases("        ", ((place, "_message number" if is_number(place, role) else ZSH_ROLES.get(role, ZSH_ROLES["PROOF"])) for place, role in role_pairs()))
     return head + ZSH.replace("@DESCRIBED@", described).replace("@COMMANDS@", " ".join(commands.COMMANDS)).replace(
         "@OPTIONS@", options).replace("@NAMES@", names).replace("@VALUES@", values).replace("@ROLES@", roles).replace("@SIGNALS@", SIGNALS)
 

@@ -39,6 +39,12 @@ def read(file):
         return Table(file, json.loads(stream.read().decode("utf-8", "surrogateescape")))
 
 
+def dma_requests(file):
+    """The names of the table's DMA requests; none where it has no list of them."""
+    requests = read(file).data.get("dma", [])
+    return [request["name"] for request in requests if isinstance(request, dict) and isinstance(request.get("name"), str)]
+
+
 def row_text(row):
     pin, number = row
     return pin if number is None else f"{pin} (AF{number})"

@@ -55,7 +55,10 @@ def complaint(command, words, number):
     if number > len(words):
         return missing(command, words)
     if number <= 1 + len(names):
-        return f"{blocks.quoted(words[number - 1])} is no {names[number - 2]}", ["a number has no sign and no leading zero"]
+        name = names[number - 2]
+        limits = commands.NUMBERS.get((command.name, name))
+        notes = [whole_number(*limits)] if limits else ["requests stand before the options"]
+        return f"{blocks.quoted(words[number - 1])} is no {name}", notes
     word, before = words[number - 1], words[number - 2]
     option = commands.OPTIONS.get(before)
     if option and option.value and before in command.options and is_value(command, words, number):
@@ -90,8 +93,12 @@ def bad_value(option, word):
         return title, [f"it is one of {', '.join(option.values)}"] + ([f"the nearest: {near[0]}"] if near else [])
     if option.limit:
         least, most = option.limit
-        return title, [f"it is a whole number from {least:,} to {most:,}, written without commas, units or leading zeros"]
+        return title, [whole_number(least, most)]
     return title, []
+
+
+def whole_number(least, most):
+    return f"it is a whole number from {least:,} to {most:,}, written without commas, units or leading zeros"
 
 
 def bad_option(command, words, number):
