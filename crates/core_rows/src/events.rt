@@ -112,7 +112,7 @@ fn closed(worker: u32, path: u128, cause: Cause) -> Option<Closed> {
 }
 
 /// Both signals want the one pin.
-fn both_want_it() -> Reason {
+pub(crate) fn both_want_it() -> Reason {
     let mut vars = VarSet::new();
     vars.put(0);
     vars.put(1);

@@ -1,79 +1,80 @@
-//! A signal with its home at a pin that the other signal can have too.
-ghost use Rattle.std.specs.Prelude.{◌≡◌};
-ghost use Rattle.choice_rank.specs.Choices.{IsShape};
-ghost use Rattle.search_api.proofs.ShapeLemmas.{shape_prop};
-ghost use Rattle.core_rows.specs.Pair.{all_first, pair_lawful, pair_meaning};
+//! The judge of a problem of pins, from the bytes of a table and of a project. What is known of a table stays in the
+//! functions here, so that no goal of a test carries it.
+ghost use Rattle.std.specs.Prelude.{◌<◌, ◌^◌, false};
+ghost use Rattle.ioc_project.specs.Read.{IsRead};
 
-use box_split::{BoxBuf, is_single, lows};
-use choice_rank::{Costs, Shape, VarShape};
-use res_base::{OutOfMemory, VarSet};
-use search_api::{Class, Judge, Reason, Verdict};
+use box_judge::PinJudge;
+use choice_rank::ShapeFault;
+use problem::{Part, Problem, build};
+use project_reading::{Opened, open_project};
+use res_base::{Items, OutOfMemory, Text};
+use res_model::{Free, Opts, Project, Tables};
 use std::alloc::Global;
 use std::test::Fail;
 
-/// Both signals have one pin at their first positions, and pins of their own at the others.
-#[derive(Drop)]
-pub(crate) struct Pair {
-    pub(crate) shape: Shape,
-    pub(crate) both: VarSet,
-    ghost shaped: { IsShape shape } by { shape_prop shape },
+/// USART1_TX can be at PA9 and PB6, and I2C1_SCL at PB6 and PB8, as in the data sheet.
+fn table() -> &'static str {
+    r#"{"version":1,"names":["STM32F407V(E-G)Tx"],"package":"LQFP100","pins":["PA9","PB6","PB8"],
+"signals":[{"name":"USART1_TX","use":"alt","at":[["PA9",7],["PB6",7]]},{"name":"I2C1_SCL","use":"alt","at":[["PB6",4],["PB8",4]]}],
+"hse_in":"RCC_OSC_IN","hse_out":"RCC_OSC_OUT","ips":[],
+"clock":{"m":[2,63],"n":[50,432],"p":[2],"q":[2,15],"hpre":[1],"ppre1":[1],"ppre2":[1],"vos":[1]},
+"limits":{"crystal":[4000000,26000000],"bypass":[1000000,50000000],"vco_in":[1000000,2000000],"vco":[100000000,432000000],"sysclk":168000000,"pclk1":42000000,"pclk2":84000000},
+"scales":[{"vos":1,"max":168000000}],"flash":[],
+"defaults":{"src":"HSI","psrc":"HSI","hpre":1,"p":2,"m":16,"n":192,"q":4,"ppre1":1,"ppre2":1,"vos":1,"hse":8000000}}"#
 }
 
-#[derive(Drop)]
-pub(crate) struct Nothing;
-
-impl Judge for Pair {
-    type Scratch = Nothing;
-
-    ghost meaning = { λ j. pair_meaning j.shape j.both };
-
-    ghost fits = { λ j s. Unit {0} };
-
-    fn shape(&self) -> &Shape {
-        &self.shape
-    }
-
-    fn scratch(&self, _alloc: Global) -> Result<Nothing, OutOfMemory> {
-        Ok(Nothing)
-    }
-
-    fn judge(&self, _scratch: &mut Nothing, b: &BoxBuf) -> Verdict {
-        if !is_single(&self.shape, b) {
-            Verdict::Open
-        } else if all_first(lows(&self.shape, b)) {
-            Verdict::Bad(Reason::Hall {
-                class: Class::Pins,
-                vars: self.both,
-            })
-        } else {
-            Verdict::Legal
-        }
-    }
-
-    ghost lawful = { λ j. pair_lawful j.shape j.both j.shaped };
+/// USART1_TX has its home at PB6.
+fn project() -> &'static str {
+    "Mcu.Name=STM32F407V(E-G)Tx\nMcu.Pin0=PB6\nPB6.Signal=USART1_TX\n"
 }
 
-/// Whether each position is the first.
-fn all_first(at: &[u16]) -> bool
-    ensures { result ≡ all_first at.now }
+/// I2C1_SCL is needed besides.
+fn options(alloc: Global) -> Result<Opts, OutOfMemory> {
+    let mut needs = Vec::new(alloc);
+    needs.push(Text::copy(alloc, "I2C1_SCL")?)?;
+    Ok(Opts {
+        vdd: 3300,
+        needs: Items::of(needs),
+        hclk: None,
+        pclk1: None,
+        pclk2: None,
+        free: Free::All,
+    })
+}
+
+/// The problem of the pins alone.
+fn built(alloc: Global, t: Tables, p: Project, opts: &Opts) -> Result<Problem, ShapeFault>
+    requires read { IsRead t opts.now false p }
+    requires hertz { p.hse_hz < 2 ^ 32 }
 {
-    at.iter().all(|x| *x == 0)
+    build(alloc, t, p, opts, Part::PinsOnly)
 }
 
-/// USART1_TX has its home PB6 and may move to PA9; I2C1_SCL is needed, at PB6 or PB8.
-pub(crate) fn shared_pin(alloc: Global) -> Result<Pair, Fail> {
-    let mut vars = Vec::new(alloc);
-    vars.push(VarShape {
-        size: 2,
-        costs: Costs::HomeFirst,
-    })?;
-    vars.push(VarShape {
-        size: 2,
-        costs: Costs::AllZero,
-    })?;
-    let shape = Shape::new(alloc, vars)?;
-    let mut both = VarSet::new();
-    both.put(0);
-    both.put(1);
-    Ok(Pair { shape, both })
+fn judge_of(alloc: Global, problem: Problem) -> Result<PinJudge, Fail> {
+    if problem.parts().first != 0 {
+        return Err(Fail::from("clock variables"));
+    }
+    Ok(PinJudge::new(alloc, problem)?)
+}
+
+fn judge_over(alloc: Global, t: Tables, p: Project, opts: &Opts) -> Result<PinJudge, Fail>
+    requires { IsRead t opts.now false p }
+{
+    if p.hse_hz >= 1 << 32 {
+        return Err(Fail::from("the frequency of the HSE"));
+    }
+    judge_of(alloc, built(alloc, t, p, opts)?)
+}
+
+/// Two signals that compete for PB6: variable 0 is USART1_TX at PB6 or PA9, and variable 1 is I2C1_SCL at PB6 or PB8.
+pub(crate) fn shared_pin(alloc: Global) -> Result<PinJudge, Fail> {
+    let opts = options(alloc)?;
+    let text = project().as_bytes();
+    if text.len() > 1000 {
+        return Err(Fail::from("a long project"));
+    }
+    match open_project(alloc, table().as_bytes(), text, &opts, false)? {
+        Opened::Project { tables, project } => judge_over(alloc, tables, project, &opts),
+        Opened::Refused(_answer) => Err(Fail::from("table and project")),
+    }
 }

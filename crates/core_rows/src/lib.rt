@@ -1,4 +1,5 @@
-//! Tests alone: lists of events, and searches by several workers, over a judge of two signals that compete for a pin.
+//! Tests alone: lists of events, and searches by several workers, over the judge of a problem in which two
+//! signals compete for a pin.
 #![tactic(auto)]
 
 #[cfg(test)]
@@ -7,3 +8,5 @@ mod events;
 mod judge;
 #[cfg(test)]
 mod searches;
+#[cfg(test)]
+mod seats;

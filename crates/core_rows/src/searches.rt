@@ -1,10 +1,12 @@
 //! Searches by several workers.
 ghost use Rattle.std.specs.Prelude.{◌≤◌};
 
-use crate::judge::{Pair, shared_pin};
+use crate::events::both_want_it;
+use crate::judge::shared_pin;
 use best_word::BestWord;
+use box_judge::PinJudge;
 use res_io::{Gate, NoGate};
-use search_api::{Cause, Class, Closed, Outcome, Reason};
+use search_api::{Cause, Closed, Outcome};
 use std::alloc::Global;
 use std::sync::Wait;
 use std::test::Fail;
@@ -15,7 +17,7 @@ use steal_pool::pool;
 fn found<R: Threads + Wait + Sync, G: Gate + Sync>(
     rt: &R,
     alloc: Global,
-    judge: &Pair,
+    judge: &PinJudge,
     workers: u32,
     gate: &G,
 ) -> Result<(Outcome, Option<u64>), Fail>
@@ -30,12 +32,8 @@ fn found<R: Threads + Wait + Sync, G: Gate + Sync>(
 fn one_worker_closes_lower_halves_first(rt: HostRuntime) -> Result<(), Fail> {
     let judge = shared_pin(rt.alloc())?;
     let (outcome, least) = found(&rt, rt.alloc(), &judge, 1, &NoGate)?;
-    let hall = Reason::Hall {
-        class: Class::Pins,
-        vars: judge.both,
-    };
     let expected = [
-        (4, Cause::Bad(hall)),
+        (4, Cause::Bad(both_want_it())),
         (5, Cause::Leaf { rank: 1 }),
         (3, Cause::Cut { rank: 1 }),
     ];

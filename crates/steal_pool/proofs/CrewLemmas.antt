@@ -1,6 +1,5 @@
 -- Workers in a list, the one of the least number last.
-use Rattle.std.proofs.Common.{◌≡◌, ℕ, zero, suc, ◌+◌, ◌-◌, ◌<◌, List, [], ◌∷◌, ◌++◌, length, map, Vec, Global, sym, refl, ap, ◌∙◌, subst, arith, append_assoc, append-nil, length-append, add-one}
-use Rattle.std.specs.Prelude.{IsOk}
+use Rattle.std.proofs.Common.{◌≡◌, ℕ, zero, suc, ◌+◌, List, [], ◌∷◌, ◌++◌, length, Vec, Global, sym, refl, ap, ◌∙◌, subst, arith, append_assoc, append-nil, length-append, add-one}
 use Rattle.res_base.specs.Lists.{Each, total}
 use Rattle.res_base.proofs.ListLemmas.{each_push, each_front, total_snoc}
 use Rattle.best_word.specs.declared.part.Part.TheVariants.{First, Other}
@@ -19,13 +18,13 @@ use Rattle.search_api.specs.declared.place.Place.{Place}
 use Rattle.search_api.specs.Meaning.{Meaning}
 use Rattle.steal_worker.specs.declared.worker.Job.{Job}
 use Rattle.steal_worker.specs.Flows.{Flows}
-use Rattle.steal_worker.specs.Jobs.{stolen, IsThief, given, came_by, went_into, Works, IsSameJob, IsDone}
+use Rattle.steal_worker.specs.Jobs.{stolen, IsThief, given, came_by, went_into, Works}
 use Rattle.steal_worker.specs.Walks.{Walks, held_places}
 use Rattle.steal_worker.proofs.WalkActs.{walks_same}
 use Rattle.steal_pool.specs.declared.gather.Gathered.{Gathered}
 use Rattle.steal_pool.specs.declared.shift.Shift.{Shift}
 use Rattle.steal_pool.specs.Joined.{put_by, got_by, stolen_by, given_below, came_below, went_below, Joined}
-use Rattle.steal_pool.specs.Crews.{Deques, owner_deques, IsFreshThief, IsOwner, IsRow, deques_of, FallTo, IsCrew, IsBack, HasEnded, TookIn, IsTakingIn, IsGathered, Ran, IsSetUp, AreSetUp, AreBack}
+use Rattle.steal_pool.specs.Crews.{Deques, owner_deques, IsFreshThief, IsOwner, IsRow, deques_of, FallTo, IsCrew, IsBack, TookIn, IsTakingIn, IsGathered, Ran, IsSetUp, AreSetUp, AreBack}
 use Rattle.steal_pool.proofs.JoinedLemmas.{joined_none, joined_more, joined_same}
 use Rattle.steal_pool.proofs.RowLemmas.{Along, map_snoc}
 

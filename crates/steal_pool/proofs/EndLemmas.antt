@@ -1,10 +1,9 @@
 -- What the workers and the caller did is a whole search.
-use Rattle.std.proofs.Common.{◌≡◌, ℕ, zero, suc, ◌+◌, ◌<◌, ◌≤◌, List, [], ◌∷◌, ◌++◌, Vec, Global, sym, refl, ap, ◌∙◌, subst, arith}
+use Rattle.std.proofs.Common.{◌≡◌, ℕ, zero, suc, ◌+◌, ◌<◌, ◌≤◌, List, ◌++◌, Vec, Global, sym, ap, ◌∙◌, subst, arith}
 use Rattle.res_base.specs.Lists.{Each, total}
 use Rattle.res_base.proofs.ListLemmas.{each_map, total_zero}
-use Rattle.best_word.specs.declared.part.Part.TheVariants.{First}
 use Rattle.best_word.specs.declared.word.View.{View}
-use Rattle.best_word.specs.Word.{one_more_out, together}
+use Rattle.best_word.specs.Word.{one_more_out}
 use Rattle.path_deque.specs.declared.deque.Owner.{Owner}
 use Rattle.path_deque.specs.declared.deque.Thief.{Thief}
 use Rattle.path_deque.specs.Ends.{owner_tally, thief_tally}

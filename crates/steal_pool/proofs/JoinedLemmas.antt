@@ -1,6 +1,6 @@
 -- Workers account together for what each of them accounts for.
-use Rattle.std.proofs.Common.{◌≡◌, ℕ, ◌+◌, ◌<◌, ◌≤◌, List, [], ◌∷◌, ◌++◌, length, sym, refl, ap, ◌∙◌, subst, ⊎_elim, arith, append_assoc, length-append}
-use Rattle.res_base.specs.Lists.{Each, Member, Pairwise, total}
+use Rattle.std.proofs.Common.{◌≡◌, ℕ, ◌+◌, ◌<◌, List, [], ◌∷◌, ◌++◌, sym, refl, ap, ◌∙◌, subst, ⊎_elim, arith, append_assoc, length-append}
+use Rattle.res_base.specs.Lists.{Each, Member, Pairwise}
 use Rattle.res_base.proofs.ListLemmas.{each_map, member_left, member_right, member_split, total_append}
 use Rattle.choice_rank.specs.declared.variable.VarShape.{VarShape}
 use Rattle.box_split.specs.Paths.{covers}
@@ -11,7 +11,7 @@ use Rattle.search_api.specs.declared.outcome.Cause.TheVariants as cause
 use Rattle.search_api.specs.declared.outcome.Closed.{Closed}
 use Rattle.search_api.specs.Meaning.{Meaning}
 use Rattle.search_api.specs.Accounts.{IsEntry, IsLegalRank, IsInTime}
-use Rattle.steal_worker.specs.Flows.{weight_closed, Flows, WeighNothing}
+use Rattle.steal_worker.specs.Flows.{Flows}
 use Rattle.steal_worker.specs.Walks.{leaf_rank, leaf_ranks, IfCut, known, AreClosed}
 use Rattle.steal_worker.proofs.FlowActs.{flow_same}
 use Rattle.steal_worker.proofs.WalkActs.{entry_more}

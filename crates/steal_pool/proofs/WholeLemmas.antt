@@ -3,10 +3,9 @@ use Rattle.std.proofs.Common.{◌≡◌, ◌≢◌, ℕ, zero, suc, ◌+◌, ◌
 use Rattle.std.specs.Prelude.{MatchOption}
 use Rattle.std.proofs.lemmas.Nat.{div_below, pow_pos}
 use Rattle.std.proofs.lemmas.Grind.{pow_more}
-use Rattle.res_base.specs.Lists.{Each, Member, total}
-use Rattle.res_base.proofs.ListLemmas.{each_map, each_in, member_left, member_right, member_split, member_last, total_zero}
+use Rattle.res_base.specs.Lists.{Each, Member}
+use Rattle.res_base.proofs.ListLemmas.{each_map, each_in, member_left, member_split, member_last}
 use Rattle.res_base.proofs.SumLemmas.{split, le_or}
-use Rattle.choice_rank.specs.Choices.{IsChoice}
 use Rattle.box_split.specs.Boxes.{Run}
 use Rattle.box_split.specs.Paths.{box_of, covers}
 use Rattle.box_split.proofs.LawLemmas.{whole_covers}
@@ -14,12 +13,12 @@ use Rattle.box_split.proofs.RunLemmas.{positive}
 use Rattle.box_split.proofs.PrefixLemmas.{half_first}
 use Rattle.best_word.specs.declared.part.Part.TheVariants.{First}
 use Rattle.best_word.specs.declared.word.View.{View}
-use Rattle.best_word.specs.Word.{saw_more, SeesRank, SeesNone}
+use Rattle.best_word.specs.Word.{SeesRank, SeesNone}
 use Rattle.search_api.specs.declared.verdict.Verdict.{Verdict}
 use Rattle.search_api.specs.declared.verdict.Verdict.TheVariants as verdict
 use Rattle.search_api.specs.declared.outcome.Closed.{Closed}
 use Rattle.search_api.specs.Meaning.{Meaning}
-use Rattle.search_api.specs.Accounts.{IsEntry, IsLegalRank, IsBest, OpenAbove, Accounted, CoverOnce}
+use Rattle.search_api.specs.Accounts.{IsEntry, IsBest, OpenAbove, Accounted, CoverOnce}
 use Rattle.steal_worker.specs.Flows.{weight_closed, Flows, PassesOn}
 use Rattle.steal_worker.specs.Walks.{IfCut, known}
 use Rattle.steal_worker.proofs.WalkActs.{entry_more}

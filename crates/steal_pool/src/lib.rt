@@ -5,7 +5,9 @@ mod back;
 mod crew;
 mod gather;
 mod rest;
+mod search;
 mod shift;
 mod workers;
 
+pub use search::search_by;
 pub use workers::pool;

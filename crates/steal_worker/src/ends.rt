@@ -11,6 +11,7 @@ ghost use Rattle.steal_worker.specs.Jobs.{stolen, IsThief, thief_deques};
 ghost use Rattle.steal_worker.specs.Walks.{held_places};
 
 use crate::held::Held;
+use crate::stop::Stop;
 use box_split::{BoxBuf, is_path, of_path};
 use choice_rank::Shape;
 use path_deque::{Owner, Thief};
@@ -47,7 +48,7 @@ pub(crate) fn place_of(s: &Shape, path: u128) -> Option<Place>
 /// Where the deque is empty, the first place of the private end goes into it, as its path.
 ///
 /// A path whose push is refused stays in the private end.
-pub(crate) fn share(owner: &mut Owner, held: &mut Held)
+pub(crate) fn share(owner: &mut Owner, held: &mut Held, stop: &Stop)
     requires { (owner_tally owner.old).part ≡ First }
     ensures same { owner_deque owner.new ≡ owner_deque owner.old }
     ensures moved { (gone : List Place) × (held_places held.old ≡ gone ++ held_places held.new) × (owner_tally owner.new ≡ put_more (owner_tally owner.old) (paths_of gone)) }
@@ -58,8 +59,9 @@ pub(crate) fn share(owner: &mut Owner, held: &mut Held)
     let Some(path) = held.first() else {
         return;
     };
+    stop.one_more();
     match owner.push(path) {
         Ok(()) => held.drop_first(),
-        Err(_) => {}
+        Err(_) => stop.one_less(),
     }
 }

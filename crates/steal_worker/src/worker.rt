@@ -10,6 +10,7 @@ ghost use Rattle.steal_worker.specs.Jobs.{stolen, IsThief, thief_deques, Works, 
 ghost use Rattle.steal_worker.specs.Walks.{held_places};
 
 use crate::ends::{place_of, share, steal_any};
+use crate::held::Held;
 use crate::stop::Stop;
 use crate::walker::{Walker, settle};
 use best_word::BestWord;
@@ -109,18 +110,24 @@ fn step<J: Judge, G: Gate>(
 {
     match settle(j, gate, word, &mut job.walker, place) {
         Ok(Some(lower)) => {
-            stop.one_more();
-            share(&mut job.owner, &mut job.walker.held);
+            share(&mut job.owner, &mut job.walker.held, stop);
             Ok(Some(lower))
         }
         Ok(None) => {
-            stop.one_less();
+            count_done(&job.walker.held, stop);
             Ok(None)
         }
         Err(OutOfMemory) => {
             stop.stop();
             Err(OutOfMemory)
         }
+    }
+}
+
+/// Where nothing is held either, the path that came from a deque is done with.
+fn count_done(held: &Held, stop: &Stop) {
+    if held.first().is_none() {
+        stop.one_less();
     }
 }
 

@@ -1,6 +1,6 @@
 use Rattle.std.proofs.Common.{◌≡◌, ℕ, ◌+◌, ◌++◌, [], ◌∷◌, List, Vec, Global, length, take, drop, refl, sym, ap, ◌∙◌, subst, arith}
 use Rattle.res_base.specs.Lists.{Each, total}
-use Rattle.res_base.proofs.ListLemmas.{each_map, each_front, total_snoc}
+use Rattle.res_base.proofs.ListLemmas.{each_front, total_snoc}
 use Rattle.path_deque.specs.declared.deque.Owner.{Owner}
 use Rattle.path_deque.specs.declared.deque.Thief.{Thief}
 use Rattle.path_deque.specs.Ends.{owner_tally, owner_deque, thief_deque}

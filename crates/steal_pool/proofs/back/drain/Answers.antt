@@ -1,4 +1,4 @@
-use Rattle.std.proofs.Common.{◌≡◌, ℕ, ◌+◌, [], ◌∷◌, ◌++◌, ap, ◌∙◌, arith}
+use Rattle.std.proofs.Common.{◌≡◌, ◌+◌, [], ◌∷◌, ap, ◌∙◌, arith}
 use Rattle.res_base.specs.Lists.{total}
 use Rattle.res_base.proofs.ListLemmas.{total_append}
 use Rattle.path_deque.specs.declared.deque.Tally.{Tally}

@@ -1,4 +1,4 @@
-use Rattle.std.proofs.Common.{◌≡◌, ℕ, ◌+◌, ◌-◌, [], ◌∷◌, ◌++◌, List, length, sym, ap, ◌∙◌, subst, arith, length-append, append-nil}
+use Rattle.std.proofs.Common.{◌≡◌, ℕ, ◌+◌, [], ◌∷◌, ◌++◌, List, length, sym, ap, ◌∙◌, subst, arith, length-append, append-nil}
 use Rattle.res_base.specs.Lists.{Each, total}
 use Rattle.res_base.proofs.ListLemmas.{each_front, total_append, total_snoc}
 use Rattle.path_deque.specs.declared.deque.Tally.{Tally}

@@ -1,4 +1,4 @@
-use Rattle.std.proofs.Common.{[], ◌∷◌, ◌++◌, sym, ap, ◌∙◌, append-nil, arith}
+use Rattle.std.proofs.Common.{sym, ap, ◌∙◌, append-nil, arith}
 use Rattle.path_deque.specs.Ends.{owner_tally}
 use Rattle.path_deque.specs.Tallies.{put_more, tally}
 use Rattle.steal_pool.proofs.CrewLemmas.{given_first, given_other}

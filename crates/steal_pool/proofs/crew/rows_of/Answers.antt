@@ -1,4 +1,4 @@
-use Rattle.std.proofs.Common.{◌≡◌, ◌+◌, ◌++◌, [], ◌∷◌, Vec, Global, length, take, drop, sym, ap, ◌∙◌, subst, arith, length-append}
+use Rattle.std.proofs.Common.{◌≡◌, ◌+◌, [], ◌∷◌, Vec, Global, length, sym, ap, ◌∙◌, subst, arith, length-append}
 use Rattle.res_base.specs.Lists.{Each}
 use Rattle.res_base.proofs.ListLemmas.{each_push}
 use Rattle.path_deque.specs.declared.deque.Owner.{Owner}

@@ -1,4 +1,4 @@
-use Rattle.std.proofs.Common.{◌≡◌, ◌+◌, ◌-◌, [], ◌∷◌, ◌++◌, Vec, Global, length, sym, refl, ap, ◌∙◌, subst, arith, append-nil, length-append}
+use Rattle.std.proofs.Common.{◌≡◌, ◌+◌, ◌-◌, [], ◌∷◌, ◌++◌, Vec, Global, length, sym, ap, ◌∙◌, subst, arith, length-append}
 use Rattle.res_base.specs.Lists.{Each}
 use Rattle.res_base.proofs.ListLemmas.{each_front}
 use Rattle.best_word.specs.declared.part.Part.TheVariants.{First}
@@ -7,7 +7,7 @@ use Rattle.path_deque.specs.declared.deque.Owner.{Owner}
 use Rattle.path_deque.specs.declared.deque.Thief.{Thief}
 use Rattle.path_deque.specs.declared.deque.Tally.{Tally}
 use Rattle.path_deque.specs.Ends.{owner_deque}
-use Rattle.steal_pool.specs.Crews.{Deques, owner_deques, IsFresh, IsFreshRow, IsSetUp, IsCrew}
+use Rattle.steal_pool.specs.Crews.{owner_deques, IsFresh, IsFreshRow, IsSetUp, IsCrew}
 use Rattle.steal_pool.proofs.CrewLemmas.{crew_push, crew_none}
 use Rattle.steal_pool.proofs.RowLemmas.{map_snoc, no_items}
 use Rattle.steal_pool.proofs.crew.shifts_of.Goals as goal

@@ -1,4 +1,4 @@
-use Rattle.std.proofs.Common.{◌≡◌, ℕ, ◌+◌, take, drop, length}
+use Rattle.std.proofs.Common.{◌≡◌, ℕ, ◌+◌, take, drop}
 use Rattle.res_base.specs.Lists.{Each}
 use Rattle.best_word.specs.declared.part.Part.TheVariants.{First}
 use Rattle.path_deque.specs.declared.deque.Owner.{Owner}

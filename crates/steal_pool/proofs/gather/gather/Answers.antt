@@ -1,8 +1,5 @@
-use Rattle.std.proofs.Common.{◌≡◌, ◌+◌, [], ◌∷◌, ◌++◌, length, sym, refl, ap, ◌∙◌, subst, arith}
-use Rattle.best_word.specs.declared.part.Part.TheVariants.{First}
-use Rattle.best_word.specs.declared.word.View.{View}
+use Rattle.std.proofs.Common.{length, ◌∙◌, subst, arith}
 use Rattle.best_word.specs.Handles.{best_view, judge_of}
-use Rattle.search_api.specs.declared.outcome.Closed.{Closed}
 use Rattle.steal_pool.specs.Crews.{IsBack, IsTakingIn}
 use Rattle.steal_pool.proofs.CrewLemmas.{crew_pop, took, taken_all, taking_none}
 use Rattle.steal_pool.proofs.RowLemmas.{no_items}

@@ -1,4 +1,4 @@
-use Rattle.std.proofs.Common.{◌≡◌, length}
+use Rattle.std.proofs.Common.{length}
 use Rattle.best_word.specs.Handles.{IsSeatOf, best_view, judge_of}
 use Rattle.steal_pool.specs.Crews.{Deques, IsTakingIn}
 use Rattle.steal_pool.proofs.gather.gather.Given as goal

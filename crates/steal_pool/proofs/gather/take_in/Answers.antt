@@ -1,4 +1,4 @@
-use Rattle.std.proofs.Common.{◌≡◌, ◌++◌, [], ◌∷◌, sym, ap, ◌∙◌}
+use Rattle.std.proofs.Common.{◌++◌, [], ◌∷◌, ap, ◌∙◌}
 use Rattle.best_word.specs.Handles.{best_view}
 use Rattle.best_word.specs.Word.{together}
 use Rattle.steal_pool.proofs.gather.take_in.Goals as goal

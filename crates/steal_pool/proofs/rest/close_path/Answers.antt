@@ -1,11 +1,11 @@
-use Rattle.std.proofs.Common.{◌≡◌, ◌+◌, [], ◌∷◌, List, refl, sym, ap, ◌∙◌, subst}
+use Rattle.std.proofs.Common.{◌+◌, [], ◌∷◌, List, refl, sym, ap, subst}
 use Rattle.std.proofs.lemmas.Result.{on_ok_weaker}
 use Rattle.box_split.specs.BoxIn.{box_in}
 use Rattle.box_split.proofs.RunLemmas.{positive}
 use Rattle.best_word.specs.Handles.{best_view}
 use Rattle.search_api.specs.declared.place.Place.{Place}
-use Rattle.steal_worker.specs.Flows.{Flows, FlowsOn}
-use Rattle.steal_worker.specs.Walks.{Walks, held_places}
+use Rattle.steal_worker.specs.Flows.{FlowsOn}
+use Rattle.steal_worker.specs.Walks.{Walks}
 use Rattle.steal_worker.proofs.FlowActs.{flow_take, flow_lose}
 use Rattle.steal_worker.proofs.WalkActs.{walks_take}
 use Rattle.steal_pool.proofs.rest.close_path.Goals as goal

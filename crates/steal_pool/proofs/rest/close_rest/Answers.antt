@@ -1,4 +1,4 @@
-use Rattle.std.proofs.Common.{◌≡◌, ℕ, ◌+◌, [], ◌∷◌, ◌++◌, List, refl, sym, ap, ◌∙◌, subst, arith}
+use Rattle.std.proofs.Common.{◌≡◌, ℕ, ◌+◌, [], ◌∷◌, List, refl, sym, ap, ◌∙◌, subst, arith}
 use Rattle.res_base.specs.Lists.{Each, total}
 use Rattle.res_base.proofs.ListLemmas.{total_snoc}
 use Rattle.best_word.specs.declared.word.View.{View}
@@ -6,7 +6,7 @@ use Rattle.best_word.specs.Handles.{best_view}
 use Rattle.best_word.specs.Word.{one_more_out, together}
 use Rattle.search_api.specs.declared.outcome.Closed.{Closed}
 use Rattle.steal_worker.specs.Flows.{Flows}
-use Rattle.steal_worker.specs.Walks.{Walks, AreClosed}
+use Rattle.steal_worker.specs.Walks.{AreClosed}
 use Rattle.steal_worker.proofs.FlowActs.{flow_same}
 use Rattle.steal_pool.proofs.CrewLemmas.{fresh_walks}
 use Rattle.steal_pool.proofs.RowLemmas.{no_items}

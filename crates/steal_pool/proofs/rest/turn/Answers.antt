@@ -1,8 +1,8 @@
-use Rattle.std.proofs.Common.{◌≡◌, [], ◌∷◌, Option, sym, ap, ◌∙◌, subst}
+use Rattle.std.proofs.Common.{[], ◌∷◌, Option, subst}
 use Rattle.std.specs.Prelude.{option_to_list}
 use Rattle.best_word.specs.Handles.{best_view}
 use Rattle.search_api.specs.declared.place.Place.{Place}
-use Rattle.steal_worker.specs.Flows.{Flows, FlowsOn}
+use Rattle.steal_worker.specs.Flows.{FlowsOn}
 use Rattle.steal_worker.specs.Walks.{Walks, held_places}
 use Rattle.steal_pool.proofs.HandLemmas.{popped_none, popped_walks, popped_flows}
 use Rattle.steal_pool.proofs.rest.turn.Goals as goal

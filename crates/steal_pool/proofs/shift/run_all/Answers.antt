@@ -1,7 +1,6 @@
-use Rattle.std.proofs.Common.{◌≡◌, length, sym, ap, ◌∙◌, subst, arith, rules}
+use Rattle.std.proofs.Common.{length, subst, arith, rules}
 use denote.Param.Send.{sendable}
 use Rattle.std.specs.Prelude.{slice_index_or}
-use Rattle.steal_pool.specs.declared.shift.Shift.{Shift}
 use Rattle.steal_pool.specs.Crews.{Ran, IsSetUp}
 use Rattle.steal_pool.proofs.CrewLemmas.{all_back}
 use Rattle.steal_pool.proofs.RowLemmas.{each_or, along_or}

@@ -1,9 +1,8 @@
-use Rattle.std.proofs.Common.{◌≡◌, ◌++◌, [], List, length, take, drop, sym, ap, ◌∙◌, subst, arith}
+use Rattle.std.proofs.Common.{◌≡◌, ◌++◌, [], length, take, drop, sym, ap, ◌∙◌, subst, arith}
 use Rattle.best_word.specs.declared.part.Part.TheVariants.{First}
 use Rattle.best_word.specs.Handles.{best_view, judge_of}
 use Rattle.best_word.specs.Word.{view_of}
-use Rattle.steal_pool.specs.declared.shift.Shift.{Shift}
-use Rattle.steal_pool.specs.Crews.{AreSetUp, AreBack, IsGathered}
+use Rattle.steal_pool.specs.Crews.{AreBack, IsGathered}
 use Rattle.steal_pool.proofs.RowLemmas.{whole}
 use Rattle.steal_pool.proofs.workers.pool.Given.{Over}
 use Rattle.steal_pool.proofs.workers.pool.Goals as goal
