@@ -2,3 +2,4 @@ pub mod FieldLemmas
 pub mod LeastLemmas
 pub mod OrderLemmas
 pub mod TimingLemmas
+pub mod WalkLemmas

@@ -3,3 +3,4 @@ pub mod Lawful
 pub mod Order
 pub mod Texts
 pub mod Timings
+pub mod Walk

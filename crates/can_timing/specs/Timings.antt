@@ -1,5 +1,5 @@
 -- Bit timings of a CAN bus (RM0090, bxCAN, bit timing).
-use Rattle.std.specs.Prelude.{ℕ, ◌+◌, ◌*◌, ◌-◌, ◌^◌, ◌≤◌, ◌==◌, ◌&&◌, List, [], ◌∷◌, Bool, not, nat_lt}
+use Rattle.std.specs.Prelude.{◌≡◌, ℕ, ◌+◌, ◌*◌, ◌-◌, ◌/◌, ◌%◌, ◌^◌, ◌≤◌, ◌==◌, ◌&&◌, List, [], ◌∷◌, Bool, not, nat_lt}
 use Rattle.choice_rank.specs.declared.variable.Costs.TheVariants.{AllZero}
 use Rattle.choice_rank.specs.declared.variable.VarShape.{VarShape}
 use Rattle.can_timing.specs.declared.request.Request.{Request}
@@ -50,3 +50,11 @@ timing_of _ = record { brp = 1; bs1 = 1; bs2 = 1 }
 -- the register CAN_BTR: each number less one
 abbrev pub btr_of : Timing → ℕ
 btr_of t = (t.bs2 - 1) * 2 ^ 20 + (t.bs1 - 1) * 2 ^ 16 + (t.brp - 1)
+
+-- each field of a word of CAN_BTR by itself
+pub record HoldsTiming (word : ℕ) (t : Timing) : Type 0 where
+  pub brp : word % 2 ^ 10 + 1 ≡ t.brp
+  pub between : word / 2 ^ 10 % 2 ^ 6 ≡ 0
+  pub bs1 : word / 2 ^ 16 % 2 ^ 4 + 1 ≡ t.bs1
+  pub bs2 : word / 2 ^ 20 % 2 ^ 3 + 1 ≡ t.bs2
+  pub above : word / 2 ^ 23 ≡ 0

@@ -1,22 +1,21 @@
 //! What is due for a request.
-ghost use Rattle.std.specs.Prelude.{◌≡◌, ◌++◌, None, Some, IfOk, OnOk};
+ghost use Rattle.std.specs.Prelude.{◌≡◌, ◌++◌, IfOk, OnOk};
+ghost use Rattle.box_split.specs.Boxes.{whole};
 ghost use Rattle.choice_rank.specs.Choices.{IsChoice, rank_of};
-ghost use Rattle.choice_rank.specs.Least.{IsAnswer};
-ghost use Rattle.search_api.specs.Accounts.{Accounted};
 ghost use Rattle.can_timing.specs.Timings.{IsTiming, can_shape, timing_of};
-ghost use Rattle.can_timing.specs.Judged.{can_meaning, legal};
-ghost use Rattle.can_timing.specs.Texts.{IsDue, IsRefutation, can_text};
+ghost use Rattle.can_timing.specs.Judged.{can_meaning};
+ghost use Rattle.can_timing.specs.Texts.{IsDue, can_text};
+ghost use Rattle.can_timing.specs.Walk.{IsFirst, IsRefuted, IsWalked, refutation_start};
 
 use crate::judge::CanJudge;
 use crate::least::least_of;
 use crate::lines::{point_line, put_btr_line, rank_line, rate_line, segments_line};
 use crate::request::Request;
 use crate::timing::{Timing, timing_of};
+use crate::walk::{all_timings, first_in};
 use answers::{Answer, Status};
-use refutation::{canonical, write_proof};
-use res_base::{Items, OutOfMemory, Ratio};
-use search_api::{Judge, Outcome};
-use serial_search::search;
+use res_base::{Items, OutOfMemory, Ratio, put_line};
+use search_api::Judge;
 use std::alloc::Global;
 
 /// The bit timing that serves a request, or the proof that none does.
@@ -34,16 +33,34 @@ pub fn answer(
     ensures { IfOk result (λ a. IsDue record { pclk = pclk; rate = rate; point = point; tolerance = tolerance } a) }
 {
     let judge = CanJudge::new(alloc, pclk, rate, point, tolerance)?;
-    let outcome = search(alloc, &judge)?;
-    match outcome.best {
+    let mut text = start_of_refutation(alloc)?;
+    match first_of_all(&judge, &mut text)? {
         Some(rank) => found(alloc, &judge, rank),
-        None => refuted(alloc, &judge, &outcome),
+        None => refuted(&judge, text),
     }
+}
+
+/// The lines of a refutation before its nodes.
+fn start_of_refutation(alloc: Global) -> Result<Vec<u8>, OutOfMemory>
+    ensures { IfOk result (λ x. x.items ≡ refutation_start) }
+{
+    let mut out = Vec::new(alloc);
+    put_line(&mut out, b"proof 1")?;
+    put_line(&mut out, b"bound none")?;
+    Ok(out)
+}
+
+/// The rank of the first timing of all that serves; where none does, the nodes of the refutation are appended.
+fn first_of_all(j: &CanJudge, out: &mut Vec<u8>) -> Result<Option<u64>, OutOfMemory>
+    ensures { IfOk result (IsWalked (can_meaning j.now.request) (whole can_shape) out.old.items out.new.items) }
+{
+    let all = all_timings(j.shape());
+    first_in(&j.request, j.shape(), &all, out)
 }
 
 /// What is due where a rank is the least.
 fn found(alloc: Global, j: &CanJudge, rank: u64) -> Result<Answer, OutOfMemory>
-    requires { IsAnswer can_shape (legal j.now.request) (Some rank) }
+    requires { IsFirst (can_meaning j.now.request) (whole can_shape) rank }
     ensures { IfOk result (λ a. IsDue j.now.request a) }
 {
     let at = least_of(alloc, j.shape(), rank)?;
@@ -54,29 +71,17 @@ fn found(alloc: Global, j: &CanJudge, rank: u64) -> Result<Answer, OutOfMemory>
     })
 }
 
-/// What is due where no choice serves.
-fn refuted(alloc: Global, j: &CanJudge, o: &Outcome) -> Result<Answer, OutOfMemory>
-    requires accounted { Accounted (can_meaning j.now.request) o.now.best o.now.kept o.now.closed }
-    requires none { o.now.best ≡ None }
-    requires answer { IsAnswer can_shape (legal j.now.request) None }
+/// What is due where no choice serves, with the text of the refutation up to its last line.
+fn refuted(j: &CanJudge, nodes: Vec<u8>) -> Result<Answer, OutOfMemory>
+    requires { IsRefuted (can_meaning j.now.request) (whole can_shape) refutation_start nodes.items }
     ensures { IfOk result (λ a. IsDue j.now.request a) }
 {
-    let text = refutation_text(alloc, j, o)?;
+    let mut text = nodes;
+    put_line(&mut text, b"end")?;
     Ok(Answer {
         status: Status::NoChoice,
         text: Items::of(text),
     })
-}
-
-/// The text of the canonical proof of an outcome without a best rank.
-fn refutation_text(alloc: Global, j: &CanJudge, o: &Outcome) -> Result<Vec<u8>, OutOfMemory>
-    requires accounted { Accounted (can_meaning j.now.request) o.now.best o.now.kept o.now.closed }
-    requires none { o.now.best ≡ None }
-    ensures { IfOk result (λ x. IsRefutation (can_meaning j.now.request) x.items) }
-{
-    let proof = canonical(alloc, j.shape(), o)?;
-    let text = write_proof(alloc, &proof)?;
-    Ok(text)
 }
 
 /// That the timing of a choice lies in its ranges.

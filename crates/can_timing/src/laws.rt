@@ -5,7 +5,7 @@ ghost use Rattle.choice_rank.specs.Least.{IsLeast, NoneLegal};
 ghost use Rattle.search_api.specs.Meaning.{IsLawful};
 ghost use Rattle.can_timing.specs.declared.request.Request.{Request};
 ghost use Rattle.can_timing.specs.declared.timing.Timing.{Timing};
-ghost use Rattle.can_timing.specs.Timings.{IsTiming, can_shape, serves, timing_of};
+ghost use Rattle.can_timing.specs.Timings.{HoldsTiming, IsTiming, btr_of, can_shape, serves, timing_of};
 ghost use Rattle.can_timing.specs.Judged.{can_meaning, legal};
 ghost use Rattle.can_timing.specs.Order.{ComesBefore};
 
@@ -34,4 +34,10 @@ pub fn least_choice_is_the_first_timing()
 /// What the judge means is lawful: a box that a limit refutes has no timing that serves.
 pub fn verdicts_are_lawful()
     ensures { (q : Request) → IsLawful (can_meaning q) }
+{}
+
+/// CAN_BTR of a timing (RM0090): BS2 less one in bits 22 to 20, BS1 less one in bits 19 to 16, the prescaler less one in bits 9 to 0,
+/// and no other bit is set.
+pub fn register_holds_the_timing()
+    ensures { (t : Timing) → IsTiming t → HoldsTiming (btr_of t) t }
 {}

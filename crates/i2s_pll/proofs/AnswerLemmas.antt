@@ -1,5 +1,5 @@
 -- The best of all is the answer.
-use Rattle.std.proofs.Common.{◌≡◌, ℕ, ◌+◌, ◌*◌, ◌<◌, ◌≤◌, ◌⊎◌, inl, inr, Option, Some, None, subst, arith}
+use Rattle.std.proofs.Common.{◌≡◌, ℕ, ◌+◌, ◌*◌, ◌≤◌, inl, inr, Option, Some, None, subst, arith}
 use Rattle.std.proofs.lemmas.Bool.{cases_lt}
 use Rattle.res_base.specs.Fraction.{Fraction}
 use Rattle.res_model.specs.Clock.{vco_in_of}
@@ -11,7 +11,7 @@ use Rattle.i2s_pll.specs.declared.choice.I2s.{I2s}
 use Rattle.i2s_pll.specs.Choices.{HasDividers, Meets, SourceIsFed}
 use Rattle.i2s_pll.specs.Least.{ComesFirst, IsAnswer, IsFirst, error_of}
 use Rattle.i2s_pll.proofs.FractionLemmas.{both_ways}
-use Rattle.i2s_pll.specs.Walk.{IsBest, IsSeen, Leads, place_of, weight}
+use Rattle.i2s_pll.specs.Walk.{IsBest, IsSeen, Leads, weight}
 
 first_of : (x y : I2s) → HasDividers x → HasDividers y → weight x ≤ weight y → IsFirst x y
 first_of x y h k l =

@@ -1,5 +1,5 @@
 -- Which of two choices leads the other.
-use Rattle.std.proofs.Common.{◌≡◌, ℕ, ◌+◌, ◌*◌, ◌/◌, ◌<◌, ◌≤◌, ◌⊎◌, inl, inr, min, max, refl, sym, ap, subst, ◌∙◌, arith}
+use Rattle.std.proofs.Common.{◌≡◌, ℕ, ◌+◌, ◌*◌, ◌/◌, ◌<◌, ◌≤◌, ◌⊎◌, inl, inr, min, max, refl, sym, subst, arith}
 use Rattle.std.proofs.lemmas.Bool.{cases_lt}
 use Rattle.std.proofs.lemmas.Nat.{mul-le}
 use Rattle.std.proofs.Math.Nat.{le_of_mul-le-mul_left}
@@ -7,7 +7,7 @@ use Rattle.res_base.specs.Fraction.{Fraction, Equals, IsAtMost}
 use Rattle.i2s_pll.specs.declared.choice.I2s.{I2s}
 use Rattle.i2s_pll.specs.Choices.{HasDividers, divider}
 use Rattle.i2s_pll.specs.Least.{apart, error_of}
-use Rattle.i2s_pll.specs.Walk.{IsBefore, IsNearer, IsNearest, Leads, place_of, weight}
+use Rattle.i2s_pll.specs.Walk.{IsBefore, IsNearer, Leads, weight}
 use Rattle.i2s_pll.proofs.FractionLemmas.{at_most_trans, clash, crossing_high, crossing_low, first_equal, nearer_above, nearer_below, not_above, same_divider, second_equal, weaken}
 
 pub positive : (a b : ℕ) → 0 < a → 0 < b → 0 < a * b

@@ -1,5 +1,5 @@
 -- The writes of a choice that keeps its limits are sound.
-use Rattle.std.proofs.Common.{◌≡◌, ℕ, zero, suc, ◌+◌, ◌*◌, ◌/◌, ◌%◌, ◌^◌, ◌<◌, ◌≤◌, ◌==◌, List, [], ◌∷◌, length, Bool, true, false, ◌&&◌, ◌||◌, not, nat_lt, if◌then◌else◌, Option, Some, IsTrue, ◌⊎◌, inl, inr, refl, sym, ap, subst, ◌∙◌, arith}
+use Rattle.std.proofs.Common.{◌≡◌, ℕ, zero, suc, ◌+◌, ◌<◌, ◌≤◌, ◌==◌, List, [], ◌∷◌, length, Bool, true, false, ◌||◌, not, nat_lt, if◌then◌else◌, Option, Some, inl, inr, refl, sym, ap, subst, ◌∙◌, arith}
 use Rattle.std.proofs.lemmas.Bool.{cases_Bool}
 use Rattle.std.proofs.lemmas.Bool.Decides.{nat_tests}
 use Rattle.res_base.specs.Fraction.{Fraction}
@@ -14,8 +14,8 @@ use Rattle.i2s_pll.specs.declared.op.I2sOp.TheVariants as op
 use Rattle.i2s_pll.specs.declared.op.I2sStep.TheVariants as stepped
 use Rattle.i2s_pll.specs.declared.state.State.{State}
 use Rattle.i2s_pll.specs.Choices.{IsChoice, KeepsBounds, Meets, i2sclk_of}
-use Rattle.i2s_pll.specs.Machine.{IsLegal, done, flagged, i2sclk_at, is_fit, n_of, poll, r_of, reset_state, word_of}
-use Rattle.i2s_pll.specs.Run.{AllCome, AreSound, Config, Running, Done, TimedOut, Forbidden, IsDone, IsEnd, IsFine, IsRight, after, config_at, next, writes_of}
+use Rattle.i2s_pll.specs.Machine.{IsLegal, done, flagged, is_fit, n_of, poll, r_of, reset_state, word_of}
+use Rattle.i2s_pll.specs.Run.{AllCome, AreSound, Config, Running, Done, TimedOut, IsDone, IsEnd, IsFine, IsRight, after, config_at, next, writes_of}
 
 -- ---- the word of N and R
 n_is : (n r : ℕ) → n < 512 → r < 8 → n_of (word_of n r) ≡ n

@@ -1,10 +1,10 @@
 -- The best choice so far, a step of N and R at a time.
-use Rattle.std.proofs.Common.{◌≡◌, ℕ, ◌+◌, ◌*◌, ◌<◌, ◌≤◌, ◌⊎◌, inl, inr, Option, Some, None, sym, subst, ◌∙◌, arith}
+use Rattle.std.proofs.Common.{◌≡◌, ℕ, ◌+◌, ◌*◌, ◌<◌, ◌≤◌, inl, inr, Option, Some, None, sym, subst, arith}
 use Rattle.std.proofs.lemmas.Bool.{cases_lt}
 use Rattle.res_base.specs.Fraction.{Fraction}
 use Rattle.res_model.specs.declared.table.Bounds.{Bounds}
 use Rattle.i2s_pll.specs.declared.choice.I2s.{I2s}
-use Rattle.i2s_pll.specs.Choices.{HasDividers, KeepsBounds, divider}
+use Rattle.i2s_pll.specs.Choices.{HasDividers, KeepsBounds}
 use Rattle.i2s_pll.specs.Walk.{IsBest, IsNearer, IsNearest, IsSeen, Leads, place_of, weight}
 use Rattle.i2s_pll.proofs.LeadLemmas.{leads_trans}
 

@@ -1,5 +1,5 @@
 -- What is due for a sample rate.
-use Rattle.std.specs.Prelude.{◌≡◌, ℕ, List, codes}
+use Rattle.std.specs.Prelude.{◌≡◌, ℕ, codes}
 use Rattle.answers.specs.Said.{Says, answered}
 use Rattle.answers.specs.declared.answer.Answer.{Answer}
 use Rattle.answers.specs.declared.answer.Status.TheVariants.{Done, NoChoice}

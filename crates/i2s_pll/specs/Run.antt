@@ -1,5 +1,5 @@
 -- Runs of ops over every list of flags, and what makes the ops of a choice sound.
-use Rattle.std.specs.Prelude.{◌≡◌, ℕ, zero, suc, ◌*◌, ◌≤◌, List, [], ◌∷◌, length, Bool, true, false, Option, Some}
+use Rattle.std.specs.Prelude.{◌≡◌, ℕ, zero, suc, ◌≤◌, List, [], ◌∷◌, length, Bool, true, false, Some}
 use Rattle.res_base.specs.Fraction.{Fraction}
 use Rattle.res_model.specs.declared.table.Bounds.{Bounds}
 use Rattle.i2s_pll.specs.declared.choice.I2s.{I2s}

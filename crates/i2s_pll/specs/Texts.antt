@@ -1,5 +1,5 @@
 -- What is printed of a choice.
-use Rattle.std.specs.Prelude.{ℕ, ◌+◌, ◌*◌, ◌/◌, ◌%◌, List, [], ◌∷◌, ◌++◌, codes, decimal, map, nat_lt, if◌then◌else◌}
+use Rattle.std.specs.Prelude.{◌≡◌, ℕ, ◌+◌, ◌*◌, ◌/◌, ◌%◌, ◌^◌, List, [], ◌∷◌, ◌++◌, codes, decimal, map, nat_lt, if◌then◌else◌}
 use Rattle.std.specs.List.{concat}
 use Rattle.res_base.specs.Fraction.{Fraction, times}
 use Rattle.i2s_pll.specs.declared.choice.I2s.{I2s}
@@ -46,6 +46,12 @@ error_line input rate x = codes "error " ++ decimal (floor (times (error_of inpu
 -- SPI_I2SPR (RM0090): the master clock in bit 9, ODD in bit 8 and DIV below
 abbrev pub prescaler_word : I2s → ℕ
 prescaler_word x = 0x200 + x.odd * 0x100 + x.div
+
+-- each field of a word of SPI_I2SPR by itself
+pub record HoldsDivider (word : ℕ) (x : I2s) : Type 0 where
+  pub div : word % 2 ^ 8 ≡ x.div
+  pub odd : word / 2 ^ 8 % 2 ≡ x.odd
+  pub master_clock : word / 2 ^ 9 ≡ 1
 
 unfoldable pub prescaler_line : I2s → List ℕ
 prescaler_line x = codes "I2SPR 0x" ++ digits_8 (prescaler_word x) ++ 10 ∷ []

@@ -2,6 +2,7 @@
 ghost use Rattle.i2s_pll.specs.declared.choice.I2s.{I2s};
 ghost use Rattle.i2s_pll.specs.Choices.{IsChoice, Meets};
 ghost use Rattle.i2s_pll.specs.Run.{AreSound, writes_of};
+ghost use Rattle.i2s_pll.specs.Texts.{HoldsDivider, prescaler_word};
 ghost use Rattle.res_model.specs.Clock.{vco_in_of};
 ghost use Rattle.res_model.specs.declared.clock.ClockChoice.{ClockChoice};
 ghost use Rattle.res_model.specs.declared.clock.Facts.{Facts};
@@ -16,3 +17,8 @@ pub fn writes_are_sound(t: &Tables)
 {
     t.keeps_rules();
 }
+
+/// SPI_I2SPR of a choice (RM0090): MCKOE in bit 9 is set, ODD is in bit 8 and DIV in bits 7 to 0, and no bit is set above.
+pub fn prescaler_holds_the_divider()
+    ensures { (x : I2s) → IsChoice x → HoldsDivider (prescaler_word x) x }
+{}

@@ -18,7 +18,7 @@ mod writes;
 
 pub use answer::i2s_answer;
 pub use choice::I2s;
-pub use laws::writes_are_sound;
+pub use laws::{prescaler_holds_the_divider, writes_are_sound};
 pub use machine::I2sMachine;
 pub use op::{I2sOp, I2sStep};
 pub use search::best_i2s;

@@ -1,4 +1,4 @@
-use Rattle.std.proofs.Common.{◌≡◌, ◌∙◌, ap}
+use Rattle.std.proofs.Common.{◌∙◌, ap}
 use Rattle.answers.specs.Said.{answered}
 use Rattle.answers.specs.declared.answer.Status.TheVariants.{Done}
 use Rattle.res_base.specs.Fraction.{Fraction}

@@ -1,4 +1,3 @@
-use Rattle.std.proofs.Common.{arith}
 use Rattle.res_model.specs.Clock.{vco_in_of}
 use Rattle.i2s_pll.proofs.RunLemmas.{fits_registers, sound}
 use Rattle.i2s_pll.proofs.laws.writes_are_sound.Goals as goal

@@ -1,4 +1,4 @@
-use Rattle.std.proofs.Common.{◌≡◌, refl, rules}
+use Rattle.std.proofs.Common.{rules}
 use Rattle.res_base.specs.Fraction.{over, whole}
 use Rattle.res_model.specs.Clock.{vco_in_of}
 use Rattle.i2s_pll.specs.Choices.{SourceIsFed}

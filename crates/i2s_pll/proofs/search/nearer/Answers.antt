@@ -1,4 +1,4 @@
-use Rattle.std.proofs.Common.{arith, rules}
+use Rattle.std.proofs.Common.{rules}
 use Rattle.res_base.specs.Fraction.{over, whole}
 use Rattle.i2s_pll.proofs.LeadLemmas.{first_is_nearer, second_is_nearer}
 use Rattle.i2s_pll.proofs.search.nearer.Goals as goal

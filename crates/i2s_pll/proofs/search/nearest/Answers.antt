@@ -1,4 +1,4 @@
-use Rattle.std.proofs.Common.{◌≡◌, ◌∙◌, ◌*◌, ◌<◌, ℕ, ◌⊎◌, inl, inr, ap, subst, sym, arith}
+use Rattle.std.proofs.Common.{◌≡◌, ◌∙◌, ◌<◌, ◌⊎◌, inl, inr, subst, sym, arith}
 use Rattle.res_base.specs.Fraction.{over, whole}
 use Rattle.i2s_pll.specs.declared.choice.I2s.{I2s}
 use Rattle.i2s_pll.specs.Choices.{HasDividers}

@@ -2,7 +2,7 @@ use Rattle.std.proofs.Common.{◌<◌, ◌+◌, ◌*◌, Option, subst, arith, r
 use Rattle.res_base.specs.Fraction.{over, whole}
 use Rattle.i2s_pll.specs.declared.choice.I2s.{I2s}
 use Rattle.i2s_pll.specs.Walk.{IsBest, IsSeen}
-use Rattle.i2s_pll.proofs.WalkLemmas.{better, first, is_later, kept}
+use Rattle.i2s_pll.proofs.WalkLemmas.{better, first, kept}
 use Rattle.i2s_pll.proofs.search.with_r.Goals as goal
 
 pub returns-then-not-keeps_bounds : goal.returns-then-not-keeps_bounds
