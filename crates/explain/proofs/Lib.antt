@@ -1,0 +1,3 @@
+pub mod HelpLemmas
+pub mod RefusedLemmas
+pub mod ThingLemmas

@@ -1,0 +1,5 @@
+pub mod Due
+pub mod GiveUp
+pub mod Going
+pub mod Left
+pub mod Things

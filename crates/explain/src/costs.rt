@@ -1,0 +1,121 @@
+//! What the least choice costs.
+ghost use Rattle.std.specs.Prelude.{◌≡◌, ◌≢◌, ◌<◌, ◌^◌, None, Ok, true, length, IfOk};
+ghost use Rattle.choice_rank.specs.Choices.{IsChoice, cost_of};
+ghost use Rattle.ioc_project.specs.Read.{IsRead};
+ghost use Rattle.ioc_text.specs.Lines.{ioc_of};
+ghost use Rattle.problem.specs.Problem.{problem_of};
+ghost use Rattle.problem.specs.declared.parts.Part.TheVariants as part;
+ghost use Rattle.explain.specs.Left.{ComesTo, HasCost, IsLeastCost, lines_left, opts_left};
+
+use crate::kinds::Thing;
+use crate::left::{line_of, opts_left};
+use box_judge::PinClockJudge;
+use choice_rank::ShapeFault;
+use ioc_project::{ProjectFault, read_project};
+use ioc_text::Ioc;
+use ioc_without::read_without;
+use least_search::{Found, found};
+use problem::{Part, Problem, build};
+use res_base::OutOfMemory;
+use res_model::{Opts, Project, Tables};
+use std::alloc::Global;
+
+/// What a choice costs.
+fn cost_of(p: &Problem, at: &[u16]) -> u32
+    requires { IsChoice p.now.shape at.now }
+    ensures { result ≡ cost_of p.now.shape at.now }
+{
+    p.parts().shape.cost(at)
+}
+
+/// The cost of the least choice of a whole problem that meets the limits; none where no choice does.
+pub fn least_cost(alloc: Global, p: Problem) -> Result<Option<u32>, OutOfMemory>
+    requires { p.first ≢ 0 }
+    ensures { IfOk result (IsLeastCost p) }
+{
+    let judge = PinClockJudge::new(alloc, p)?;
+    match found(alloc, &judge)? {
+        Found::Choice { at } => Ok(Some(cost_of(judge.problem(), at.as_slice()))),
+        Found::Nothing { .. } => Ok(None),
+    }
+}
+
+/// That the HSE's frequency is a u32.
+fn hertz_fit(t: &Tables)
+    ensures { t.now.hse_hz < 2 ^ 32 }
+{
+    t.keeps_rules();
+}
+
+/// That a problem whose ranks would not fit from this variable on has no cost.
+fn wide_cost(_variable: u16) -> Result<Option<u32>, OutOfMemory>
+    ensures { IfOk result (λ cost. cost ≡ None) }
+{
+    Ok(None)
+}
+
+/// The cost of the least choice of a project, unless its ranks would not fit.
+fn project_cost(
+    alloc: Global,
+    t: Tables,
+    p: Project,
+    opts: &Opts,
+) -> Result<Option<u32>, OutOfMemory>
+    requires { IsRead t opts.now true p }
+    ensures { IfOk result (HasCost (problem_of t p opts.now part.Whole)) }
+{
+    hertz_fit(&t);
+    match build(alloc, t, p, opts, Part::Whole) {
+        Ok(problem) => least_cost(alloc, problem),
+        Err(ShapeFault::TooWide { variable }) => wide_cost(variable),
+        Err(ShapeFault::Memory) => Err(OutOfMemory),
+    }
+}
+
+/// That a project that is refused has no cost.
+fn refused_cost(fault: ProjectFault) -> Result<Option<u32>, OutOfMemory>
+    ensures { IfOk result (λ cost. (fault ≢ ProjectFault.Memory) × (cost ≡ None)) }
+{
+    match fault {
+        ProjectFault::Memory => Err(OutOfMemory),
+        _ => Ok(None),
+    }
+}
+
+/// What lines and options come to under a table.
+fn cost_left(alloc: Global, t: &Tables, ioc: &Ioc, opts: &Opts) -> Result<Option<u32>, OutOfMemory>
+    ensures { IfOk result (ComesTo t.now ioc.now opts.now) }
+{
+    match read_project(alloc, t, ioc, opts, true) {
+        Ok(project) => {
+            let tables = t.copy(alloc)?;
+            project_cost(alloc, tables, project, opts)
+        }
+        Err(fault) => refused_cost(fault),
+    }
+}
+
+/// What is left without a thing comes to. The lines are those of the text.
+pub(crate) fn cost_without(
+    alloc: Global,
+    t: &Tables,
+    text: &[u8],
+    ioc: &Ioc,
+    opts: &Opts,
+    thing: Thing,
+) -> Result<Option<u32>, OutOfMemory>
+    requires short { length text.now < 2 ^ 32 }
+    requires read { ioc_of text.now ≡ Ok ioc.now }
+    ensures { IfOk result (ComesTo t.now (lines_left ioc.now thing) (opts_left opts.now thing)) }
+{
+    let opts = opts_left(alloc, opts, thing)?;
+    match line_of(thing) {
+        None => cost_left(alloc, t, ioc, &opts),
+        Some(line) => {
+            let Ok(left) = read_without(alloc, text, line) else {
+                return Err(OutOfMemory);
+            };
+            cost_left(alloc, t, &left, &opts)
+        }
+    }
+}

@@ -1,0 +1,72 @@
+//! Lines of a project's text that hold something fixed.
+ghost use Rattle.std.specs.Prelude.{◌≡◌, find, option_copied};
+ghost use Rattle.res_model.specs.Placed.{rows_named};
+ghost use Rattle.res_model.specs.Signals.{rows_of, signal_named};
+ghost use Rattle.explain.specs.Things.{has_no_rows, lists_pin, pin_line, true_line};
+
+use ioc_text::{Ioc, Line, pin_number};
+use res_model::{PinUse, Signal, TableParts, TableSignal};
+
+/// The number of a line that says `true`.
+pub(crate) fn true_line(line: Option<&Line>) -> Option<u32>
+    ensures { result ≡ true_line (option_copied line.entry) }
+{
+    match line {
+        None => None,
+        Some(line) => {
+            if line.value.as_slice() == b"true".as_slice() {
+                Some(line.number)
+            } else {
+                None
+            }
+        }
+    }
+}
+
+/// Whether a line lists this pin.
+fn lists_pin(pin: &[u8], line: &Line) -> bool
+    ensures { result ≡ lists_pin pin.now line.now }
+{
+    pin_number(line.key.as_slice()).is_some() && line.value.as_slice() == pin
+}
+
+/// The line that lists a pin.
+#[tactic(auto, unfolding(crate::specs::Things::pin_line))]
+pub(crate) fn pin_line<'i>(ioc: &'i Ioc, pin: &[u8]) -> Option<&'i Line>
+    ensures { option_copied result ≡ pin_line ioc.now pin.now }
+{
+    for line in ioc.lines() {
+        if lists_pin(pin, line) {
+            return Some(line);
+        }
+    }
+    None
+}
+
+/// The signal of the table with this name.
+#[tactic(auto, unfolding(res_model::specs::Signals::signal_named))]
+fn signal_named<'t>(t: &'t TableParts, name: &[u8]) -> Option<&'t TableSignal>
+    ensures { option_copied result ≡ signal_named t.now name.now }
+{
+    t.signals
+        .as_slice()
+        .iter()
+        .find(|signal| signal.name.as_str().as_bytes() == name)
+}
+
+fn rows_of<'t>(signal: Option<&'t TableSignal>) -> &'t [PinUse]
+    ensures { result.now ≡ rows_of (option_copied signal.entry) }
+{
+    match signal {
+        Some(signal) => signal.at.as_slice(),
+        None => &[],
+    }
+}
+
+/// Whether a signal stays where it is, since the table has no rows for it.
+#[tactic(auto, unfolding(res_model::specs::Placed::rows_named))]
+pub(crate) fn has_no_rows(t: &TableParts, signal: &Signal) -> bool
+    ensures { result ≡ has_no_rows t.now signal.now }
+{
+    rows_of(signal_named(t, signal.name.as_str().as_bytes())).len() == 0
+}

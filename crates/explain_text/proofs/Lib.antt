@@ -1,0 +1,4 @@
+pub mod JoinedLemmas
+pub mod SetLemmas
+pub mod ValueLemmas
+pub mod WholeLemmas

@@ -1,0 +1,18 @@
+use Rattle.std.proofs.Common.{◌++◌, ◌∙◌, ℕ, List, ap, length, sym, append-nil, arith}
+use Rattle.problem.specs.declared.parts.ProblemParts.{ProblemParts}
+use Rattle.explain_text.specs.Changes.{change_at}
+use Rattle.explain_text.specs.Joined.{joined}
+use Rattle.explain_text.proofs.JoinedLemmas.{one_more, all}
+use Rattle.explain_text.proofs.changes.put_changes.Goals as goal
+
+pub loop-i-init : goal.loop-i-init
+unfolding joined
+loop-i-init c = sym (append-nil c.args.out.now.items)
+
+pub loop-i-preserved : goal.loop-i-preserved
+loop-i-preserved c =
+    one_more (change_at c.args.p.now c.args.at.now) c.args.out.now.items c.loop-i.out.items c.extend_from_slice.new.self.items c.loop-i.i c.loop-i.invariant
+    (c.in_ok-extend_from_slice.ensures.items ∙ ap (λ (l : List ℕ). c.loop-i.out.items ++ l) (c.as_bytes.ensures.value ∙ c.in_ok-line.ensures))
+
+pub returns : goal.returns
+returns c = all (change_at c.args.p.now c.args.at.now) c.args.out.now.items c.loop-i.out.items c.loop-i.i (length c.args.p.now.signals) (omega (arith, c.len-i-end.ensures, ap (λ (q : ProblemParts). length q.signals) c.parts.ensures)) c.loop-i.invariant

@@ -1,0 +1,5 @@
+pub mod Changes
+pub mod Figures
+pub mod Joined
+pub mod Names
+pub mod Reasons

@@ -1,0 +1,196 @@
+//! What a choice changes of the clock variables.
+ghost use Rattle.std.specs.Prelude.{◌≡◌, ◌<◌, ◌++◌, IfOk, OnOk, string_bytes};
+ghost use Rattle.clock_limits.specs.Ranges.{code_of};
+ghost use Rattle.clock_tree.specs.ClockText.{source_word};
+ghost use Rattle.problem.specs.ClockValues.{source_of};
+ghost use Rattle.explain_text.specs.Changes.{bus_changes, change_line, home_value, number_change, pll_changes, source_change, source_changes};
+
+use res_model::{ClockChoice, Home, Src};
+use std::alloc::{AllocError, Global};
+
+fn source_word(source: Src) -> &'static str
+    ensures { result.now ≡ source_word source }
+{
+    match source {
+        Src::Hsi => "HSI",
+        Src::Hse => "HSE",
+        Src::Pll => "PLL",
+    }
+}
+
+fn code_of(source: Src) -> u64
+    ensures { result ≡ code_of source }
+{
+    match source {
+        Src::Hsi => 0,
+        Src::Hse => 1,
+        Src::Pll => 2,
+    }
+}
+
+fn source_of(code: u64) -> Src
+    ensures { result ≡ source_of code }
+{
+    match code {
+        0 => Src::Hsi,
+        1 => Src::Hse,
+        _ => Src::Pll,
+    }
+}
+
+#[tactic(auto, unfolding(crate::specs::Changes::change_line))]
+fn change_line(alloc: Global, word: &str, home: &str, value: &str) -> Result<String, AllocError>
+    ensures { IfOk result (λ x. string_bytes x ≡ change_line word.now home.now value.now) }
+{
+    let mut line = String::from_str(alloc, word)?;
+    line.push_str(" changes from ")?;
+    line.push_str(home)?;
+    line.push_str(" to ")?;
+    line.push_str(value)?;
+    line.push_str("\n")?;
+    Ok(line)
+}
+
+#[tactic(auto, unfolding(crate::specs::Changes::source_change))]
+fn source_change(alloc: Global, word: &str, home: u64, source: Src) -> Result<String, AllocError>
+    ensures { IfOk result (λ x. string_bytes x ≡ source_change word.now home source) }
+{
+    if home == code_of(source) {
+        return Ok(String::new(alloc));
+    }
+    change_line(
+        alloc,
+        word,
+        source_word(source_of(home)),
+        source_word(source),
+    )
+}
+
+#[tactic(auto, unfolding(crate::specs::Changes::number_change))]
+fn number_change(alloc: Global, word: &str, home: u64, value: u64) -> Result<String, AllocError>
+    ensures { IfOk result (λ x. string_bytes x ≡ number_change word.now home value) }
+{
+    if home == value {
+        return Ok(String::new(alloc));
+    }
+    let home = home.to_string(alloc)?;
+    let value = value.to_string(alloc)?;
+    change_line(alloc, word, home.as_str(), value.as_str())
+}
+
+/// Appends what a number changes.
+fn put_change(
+    alloc: Global,
+    out: &mut String,
+    word: &str,
+    home: u64,
+    value: u64,
+) -> Result<(), AllocError>
+    ensures { OnOk result (string_bytes out.new ≡ string_bytes out.old ++ number_change word.now home value) }
+{
+    let line = number_change(alloc, word, home, value)?;
+    out.push_str(line.as_str())
+}
+
+/// The home of the clock variable of this number.
+#[tactic(auto, unfolding(crate::specs::Changes::home_value))]
+fn home_value(homes: &[Home; 10], k: usize) -> u64
+    requires { k < 10 }
+    ensures { result ≡ home_value homes.now k }
+{
+    homes[k].value
+}
+
+#[tactic(auto, unfolding(crate::specs::Changes::source_changes))]
+fn source_changes(alloc: Global, homes: &[Home; 10], c: &ClockChoice) -> Result<String, AllocError>
+    ensures { IfOk result (λ x. string_bytes x ≡ source_changes homes.now c.now) }
+{
+    let mut out = source_change(alloc, "clock source", home_value(homes, 0), c.src)?;
+    let pll = source_change(alloc, "PLL source", home_value(homes, 1), c.psrc)?;
+    out.push_str(pll.as_str())?;
+    Ok(out)
+}
+
+#[tactic(auto, unfolding(crate::specs::Changes::pll_changes))]
+fn pll_changes(alloc: Global, homes: &[Home; 10], c: &ClockChoice) -> Result<String, AllocError>
+    ensures { IfOk result (λ x. string_bytes x ≡ pll_changes homes.now c.now) }
+{
+    let mut out = number_change(
+        alloc,
+        "AHB divider",
+        home_value(homes, 2),
+        u64::from(c.hpre),
+    )?;
+    put_change(
+        alloc,
+        &mut out,
+        "PLLP",
+        home_value(homes, 3),
+        u64::from(c.p),
+    )?;
+    put_change(
+        alloc,
+        &mut out,
+        "PLLM",
+        home_value(homes, 4),
+        u64::from(c.m),
+    )?;
+    put_change(
+        alloc,
+        &mut out,
+        "PLLN",
+        home_value(homes, 5),
+        u64::from(c.n),
+    )?;
+    put_change(
+        alloc,
+        &mut out,
+        "PLLQ",
+        home_value(homes, 6),
+        u64::from(c.q),
+    )?;
+    Ok(out)
+}
+
+#[tactic(auto, unfolding(crate::specs::Changes::bus_changes))]
+fn bus_changes(alloc: Global, homes: &[Home; 10], c: &ClockChoice) -> Result<String, AllocError>
+    ensures { IfOk result (λ x. string_bytes x ≡ bus_changes homes.now c.now) }
+{
+    let mut out = number_change(
+        alloc,
+        "APB1 divider",
+        home_value(homes, 7),
+        u64::from(c.ppre1),
+    )?;
+    put_change(
+        alloc,
+        &mut out,
+        "APB2 divider",
+        home_value(homes, 8),
+        u64::from(c.ppre2),
+    )?;
+    put_change(
+        alloc,
+        &mut out,
+        "voltage scale",
+        home_value(homes, 9),
+        u64::from(c.vos),
+    )?;
+    Ok(out)
+}
+
+/// The lines of the clock variables that leave their homes.
+pub(crate) fn clock_changes(
+    alloc: Global,
+    homes: &[Home; 10],
+    c: &ClockChoice,
+) -> Result<String, AllocError>
+    ensures { IfOk result (λ x. string_bytes x ≡ source_changes homes.now c.now ++ pll_changes homes.now c.now ++ bus_changes homes.now c.now) }
+{
+    let mut out = source_changes(alloc, homes, c)?;
+    let pll = pll_changes(alloc, homes, c)?;
+    out.push_str(pll.as_str())?;
+    let buses = bus_changes(alloc, homes, c)?;
+    out.push_str(buses.as_str())?;
+    Ok(out)
+}

@@ -1,0 +1,70 @@
+//! What voltage scales and flash rows allow at most.
+ghost use Rattle.std.specs.Prelude.{◌≡◌, option_copied};
+ghost use Rattle.res_model.specs.Power.{has_supply, range_at, scale_limit};
+ghost use Rattle.explain_text.specs.Figures.{hertz_or, last_row, scales_most};
+
+use res_model::{FlashRange, TableParts};
+
+/// The greatest HCLK under a scale.
+#[tactic(auto, unfolding(res_model::specs::Power::scale_limit))]
+fn scale_limit(t: &TableParts, vos: u16) -> Option<u64>
+    ensures { result ≡ scale_limit t.now vos }
+{
+    for scale in t.scales.as_slice() {
+        if u16::from(scale.vos) == vos {
+            return Some(scale.max);
+        }
+    }
+    None
+}
+
+pub(crate) fn hertz_or(hertz: Option<u64>) -> u64
+    ensures { result ≡ hertz_or hertz }
+{
+    match hertz {
+        None => 0,
+        Some(hertz) => hertz,
+    }
+}
+
+/// The greatest HCLK under any of these scales.
+pub(crate) fn scales_most(t: &TableParts, scales: &[u16]) -> u64
+    ensures { result ≡ scales_most t.now scales.now }
+{
+    let mut most = 0;
+    for vos in scales {
+        most = most.max(hertz_or(scale_limit(t, *vos)));
+    }
+    most
+}
+
+fn has_supply(vdd: u32, range: &FlashRange) -> bool
+    ensures { result ≡ has_supply vdd range.now }
+{
+    range.from <= u64::from(vdd) && u64::from(vdd) <= range.to
+}
+
+/// The flash range of a supply voltage in millivolts.
+#[tactic(auto, unfolding(res_model::specs::Power::range_at))]
+pub(crate) fn range_at(t: &TableParts, vdd: u32) -> Option<&FlashRange>
+    ensures { option_copied result ≡ range_at t.now vdd }
+{
+    for range in t.flash.as_slice() {
+        if has_supply(vdd, range) {
+            return Some(range);
+        }
+    }
+    None
+}
+
+/// The greatest HCLK that a flash range allows: its last row.
+pub(crate) fn last_row(range: &FlashRange) -> u64
+    ensures { result ≡ last_row range.now }
+{
+    let rows = range.rows.as_slice();
+    if rows.is_empty() {
+        0
+    } else {
+        rows[rows.len() - 1]
+    }
+}

@@ -1,0 +1,4 @@
+pub mod CutLemmas
+pub mod LeftLemmas
+pub mod ReadLemmas
+pub mod StartLemmas
