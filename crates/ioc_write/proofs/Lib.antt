@@ -1,0 +1,11 @@
+mod BackLemmas
+mod Bytewise
+mod Cuts
+mod DivideLemmas
+mod Fates
+mod Names
+mod PartLemmas
+mod PinSpots
+mod TextLemmas
+mod UseLemmas
+mod Walks

@@ -1,0 +1,6 @@
+use Rattle.std.proofs.Common.{arith}
+use Rattle.ioc_write.proofs.UseLemmas.{uses_end}
+use Rattle.ioc_write.proofs.plan.uses_at.Goals as goal
+
+pub returns : goal.returns
+returns c = uses_end c.args.values.now c.args.at.now c.loop-k.k c.loop-k.found.items (omega arith) c.loop-k.invariant

@@ -1,0 +1,16 @@
+use Rattle.std.proofs.Common.{◌≡◌, ◌+◌, ◌≤◌, length}
+use Rattle.res_model.specs.Steps.{with_front}
+use Rattle.ioc_write.specs.Lines.{text_lines}
+use Rattle.ioc_write.specs.WriteBack.{lines_written}
+use Rattle.ioc_write.proofs.write.put_lines.Given as goal
+
+abbrev pub invariant-write : goal.invariant-write
+invariant-write l = record {
+  same :
+      with_front l.out.items (lines_written l.plan.problem.now l.plan.at.now l.plan.pins (l.number + 1) (text_lines l.rest))
+      ≡ with_front l.fn.out.items (lines_written l.plan.problem.now l.plan.at.now l.plan.pins 1 (text_lines l.text));
+  few : l.number + length l.rest ≤ length l.text;
+}
+
+abbrev pub decreases-write : goal.decreases-write
+decreases-write l = length l.rest
