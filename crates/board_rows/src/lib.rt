@@ -1,0 +1,5 @@
+//! Tests alone: boards of a small table.
+#![tactic(auto)]
+
+#[cfg(test)]
+mod boards;
