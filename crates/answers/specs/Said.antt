@@ -2,7 +2,7 @@
 use Rattle.std.specs.Prelude.{◌≡◌, ℕ, List, [], ◌∷◌, ◌++◌}
 use Rattle.answers.specs.declared.answer.Answer.{Answer}
 use Rattle.answers.specs.declared.answer.Status.{Status}
-use Rattle.answers.specs.declared.answer.Status.TheVariants.{Done, NoChoice, Usage, ReadFailed, TooLong, TableRefused, ProjectRefused, TooWide, WriteFailed, OutOfMemory, ProofRefused, NotBuilt, RequestRefused}
+use Rattle.answers.specs.declared.answer.Status.TheVariants.{Done, NoChoice, Usage, ReadFailed, TooLong, TableRefused, ProjectRefused, TooWide, WriteFailed, OutOfMemory, ProofRefused, WriteBackRefused, RequestRefused}
 
 -- this status, and this text
 abbrev pub answered : Status → List ℕ → Answer
@@ -25,5 +25,5 @@ number_of TooWide = 7
 number_of WriteFailed = 8
 number_of OutOfMemory = 9
 number_of ProofRefused = 10
-number_of NotBuilt = 11
+number_of WriteBackRefused = 12
 number_of RequestRefused = 13

@@ -30,8 +30,8 @@ pub enum Status {
     OutOfMemory,
     /// The proof has no reading or is not accepted.
     ProofRefused,
-    /// More than one worker is not served yet.
-    NotBuilt,
+    /// The project cannot be written back with a choice.
+    WriteBackRefused,
     /// A DMA request that the table does not have, or that was asked for before.
     RequestRefused,
 }
@@ -53,7 +53,7 @@ impl Status {
             Status::WriteFailed => 8,
             Status::OutOfMemory => 9,
             Status::ProofRefused => 10,
-            Status::NotBuilt => 11,
+            Status::WriteBackRefused => 12,
             Status::RequestRefused => 13,
         }
     }

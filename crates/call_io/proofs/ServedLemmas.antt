@@ -5,13 +5,12 @@ use Rattle.std.proofs.lemmas.Bool.Decides.{nat_tests}
 use Rattle.answers.specs.Said.{Says, number_of}
 use Rattle.answers.specs.declared.answer.Answer.{Answer}
 use Rattle.answers.specs.declared.answer.Status.{Status}
-use Rattle.answers.specs.declared.answer.Status.TheVariants.{Done, NoChoice, Usage, ReadFailed, TooLong, TableRefused, ProjectRefused, TooWide, WriteFailed, OutOfMemory, ProofRefused, NotBuilt, RequestRefused}
+use Rattle.answers.specs.declared.answer.Status.TheVariants.{Done, NoChoice, Usage, ReadFailed, TooLong, TableRefused, ProjectRefused, TooWide, WriteFailed, OutOfMemory, ProofRefused, WriteBackRefused, RequestRefused}
 use Rattle.call_io.specs.Gathered.{AllRead, AreSeen, IsClear, IsOfInputs, Stopped, Unread, failed, long}
 use Rattle.call_io.specs.Inputs.{Files, Input, Reads, Wrote, first_long, inputs_told, with_input}
 use Rattle.call_io.specs.Ran.{Answers, Ended, NoneFailed, IsOwn, IsWritten, Ran, Served, WroteText, answered as answered_by, part, starved, whole}
 use Rattle.res_base.specs.Lists.{Member}
 use Rattle.res_base.proofs.ListLemmas.{member_right}
-use Rattle.res_io.specs.Causes.{Rose}
 use Rattle.res_io.specs.Bytes.{IsLonger, IsOverLimit, IsWithinLimit, Tells, file_of}
 
 abbrev bytes_of : List Input → List (List ℕ)
@@ -86,7 +85,7 @@ refused names owed before after a law s = by_cause s.unread
           due = λ no. absurd (no status);
           failed = λ e. (s.name, here, record { rose = rose; says = ap (λ (x : Answer). x.text) says });
           too_long = λ e. absurd cc;
-          told = λ served name m over. absurd (not_both name after.current after.taken within over);
+          told = λ name m over. absurd (not_both name after.current after.taken within over);
         }
     by_cause (long longer over says) =
         let status : a.status ≡ TooLong = ap (λ (x : Answer). x.status) says in
@@ -96,7 +95,7 @@ refused names owed before after a law s = by_cause s.unread
           due = λ no. weaker (IsFirst s.name) (λ (is : List Input). owed is a) (inputs_told before.files names) (λ is e. law is s.name e says) first;
           failed = λ e. absurd cc;
           too_long = λ e. (s.name, here, over, ap (λ (x : Answer). x.text) says);
-          told = λ served name m o. status;
+          told = λ name m o. status;
         }
 
 -- what is owed for the bytes of inputs that were read
@@ -109,7 +108,7 @@ answered_for names owed before after read a all clear of law =
       due = λ no. weaker (AreSeen read) (λ (is : List Input). owed is a) (inputs_told before.files names) law (inputs_are before.files names read all);
       failed = λ e. absurd (of.no_read_fault e);
       too_long = λ e. absurd (of.no_length e);
-      told = λ served name m over. absurd (none clear name m over);
+      told = λ name m over. absurd (none clear name m over);
     }
   where
     none : IsClear names after → (name : List ℕ) → Member name names → IsOverLimit name after.current after.taken → ⊥
@@ -165,7 +164,7 @@ two_is_usage TooWide e = absurd cc
 two_is_usage WriteFailed e = absurd cc
 two_is_usage OutOfMemory e = absurd cc
 two_is_usage ProofRefused e = absurd cc
-two_is_usage NotBuilt e = absurd cc
+two_is_usage WriteBackRefused e = absurd cc
 two_is_usage RequestRefused e = absurd cc
 
 -- where an answer of status 2 is due and no input is asked for, a call answers 2, or 8 or 9

@@ -1,10 +1,9 @@
 -- Inputs that are read one after the other.
-use Rattle.std.proofs.Common.{◌≡◌, ◌∙◌, ℕ, zero, suc, ◌+◌, ◌-◌, ◌^◌, ◌<◌, ◌≤◌, ◌⊎◌, inl, inr, List, [], ◌∷◌, ◌++◌, length, get_or, take, drop, refl, sym, ap, subst, arith, Option, Some, None}
-use Rattle.std.specs.Prelude.{min, slice_index}
+use Rattle.std.proofs.Common.{◌≡◌, ◌∙◌, ℕ, zero, suc, ◌+◌, ◌<◌, ◌≤◌, List, [], ◌∷◌, ◌++◌, length, get_or, take, drop, sym, ap, subst, arith}
 use Rattle.std.proofs.Math.Seq.{take-suc}
 use Rattle.answers.specs.declared.answer.Answer.{Answer}
-use Rattle.call_io.specs.Gathered.{AllRead, IsRead, Stopped, Unread, failed, long}
-use Rattle.call_io.specs.Inputs.{Files, Reads, reads}
+use Rattle.call_io.specs.Gathered.{AllRead, IsRead, Unread, failed, long}
+use Rattle.call_io.specs.Inputs.{Files, Reads}
 use Rattle.res_io.specs.Bytes.{IsLonger, file_of}
 use Rattle.res_io.specs.Causes.{NoneFell, Rose}
 

@@ -1,5 +1,5 @@
 -- The inputs of a call: their names and bytes, and what is known of them before and after.
-use Rattle.std.specs.Prelude.{◌≡◌, ◌≤◌, ℕ, List, [], ◌∷◌, length, nat_lt, if◌then◌else◌, Option, Some, None, option_map}
+use Rattle.std.specs.Prelude.{ℕ, List, [], ◌∷◌, length, nat_lt, if◌then◌else◌, Option, Some, None, option_map}
 use Rattle.res_io.specs.Bytes.{file_of}
 
 -- an input: its name, and its bytes

@@ -1,11 +1,11 @@
 -- What a call has done that reads inputs of these names: the text that is due where the inputs tell their bytes, and the
 -- cause of each other answer.
-use Rattle.std.specs.Prelude.{◌≡◌, ◌≢◌, ◌⊎◌, ℕ, List, [], ◌∷◌, ◌++◌, Option, IfSome, Result, Ok, Err, codes, take, is_some}
+use Rattle.std.specs.Prelude.{◌≡◌, ◌≢◌, ◌⊎◌, ℕ, List, [], ◌∷◌, ◌++◌, IfSome, Result, Ok, Err, codes, take, is_some}
 use Rattle.std.specs.Io.KnownBytes.{Appends}
 use Rattle.answers.specs.Said.{number_of}
 use Rattle.answers.specs.declared.answer.Answer.{Answer}
 use Rattle.answers.specs.declared.answer.Status.{Status}
-use Rattle.answers.specs.declared.answer.Status.TheVariants.{ReadFailed, TooLong, WriteFailed, OutOfMemory, NotBuilt}
+use Rattle.answers.specs.declared.answer.Status.TheVariants.{ReadFailed, TooLong, WriteFailed, OutOfMemory}
 use Rattle.call_io.specs.Inputs.{Files, Input, Reads, Wrote, inputs_told}
 use Rattle.res_base.specs.Lists.{Member}
 use Rattle.res_io.specs.Bytes.{IsOverLimit}
@@ -43,7 +43,7 @@ pub record Served (names : List (List ℕ)) (owed : List Input → Answer → Ty
   pub due : a.status ≢ ReadFailed → TellsDue before.files names owed a
   pub failed : a.status ≡ ReadFailed → IsReadFault names before after a.text
   pub too_long : a.status ≡ TooLong → IsTooLong names after a.text
-  pub told : a.status ≢ NotBuilt → IsToldIfLong names after a.status
+  pub told : IsToldIfLong names after a.status
 
 -- the text was appended where written bytes are told, and they are told after it exactly where they were before
 abbrev pub Writes : Wrote → Wrote → List ℕ → Type 0

@@ -8,6 +8,9 @@
 --     can T P RATE POINT TOLERANCE
 --     dma T REQUEST.. [--workers N]
 --     i2s T P SAMPLE_RATE
+--     ioc T P [OPTIONS] [--workers N]
+--     board T P [OPTIONS]
+--     explain T P [OPTIONS]
 --
 -- OPTIONS are --vdd MV, --need SIGNAL, --hclk HZ, --pclk1 HZ, --pclk2 HZ and --free pins|clock|all|none. Options stand
 -- after the names, in any order, and each at most once but --need. T, P, PROOF and SIGNAL are any words;
@@ -20,12 +23,13 @@ use Rattle.res_model.specs.Numbers.{number_of, number_up_to}
 use Rattle.res_model.specs.Steps.{◌>>=◌}
 use Rattle.res_model.specs.declared.opts.Opts.{Opts}
 use Rattle.cmd_words.specs.declared.command.Command.{Command}
-use Rattle.cmd_words.specs.declared.command.Command.TheVariants.{Pins, Tree, Resolve, Check, Case, Can, I2s, Dma}
+use Rattle.cmd_words.specs.declared.command.Command.TheVariants.{Pins, Tree, Resolve, Check, Case, Can, I2s, Dma, Ioc, Board, Explain}
 use Rattle.res_model.specs.declared.opts.Free.{Free as FreeSet}
 use Rattle.res_model.specs.declared.opts.Free.TheVariants as free
 use Rattle.cmd_words.specs.declared.fault.UsageFault.{UsageFault}
 use Rattle.cmd_words.specs.declared.fault.UsageFault.TheVariants.{Word}
 use Rattle.cmd_words.specs.declared.given.Given.{Given}
+use Rattle.cmd_words.specs.declared.given.Named.{Named}
 use Rattle.cmd_words.specs.declared.given.Flag.{Flag}
 use Rattle.cmd_words.specs.declared.given.Flag.TheVariants.{Vdd, Need, Hclk, Pclk1, Pclk2, Free, Workers, Proof}
 
@@ -48,6 +52,9 @@ check_takes = common
 
 abbrev pub case_takes : List Flag
 case_takes = Workers ∷ []
+
+abbrev pub ioc_takes : List Flag
+ioc_takes = common ++ Workers ∷ []
 
 -- How an option is written.
 abbrev pub word_of : Flag → List ℕ
@@ -164,29 +171,51 @@ abbrev pub worker_count : Given → ℕ
 worker_count g = unwrap_or g.workers 1
 
 -- The words after a command's own end before its names do.
-abbrev pub too_early : List (List ℕ) → Result Command UsageFault
+abbrev pub too_early : {X : Type 0} → List (List ℕ) → Result X UsageFault
 too_early words = Err (Word (length words + 2))
+
+-- T P, and the options behind them
+abbrev pub named : List Flag → List (List ℕ) → Result Named UsageFault
+named takes (t ∷ p ∷ words) = do
+  g ← options takes 4 words
+  Ok (record { tables = t; project = p; given = g })
+named takes words = too_early words
 
 -- pins T P [--need SIGNAL]..
 abbrev pub pins_of : List (List ℕ) → Result Command UsageFault
-pins_of (t ∷ p ∷ words) = do
-  g ← options pins_takes 4 words
-  Ok (Pins t p (opts_of g))
-pins_of words = too_early words
+pins_of words = do
+  n ← named pins_takes words
+  Ok (Pins n.tables n.project (opts_of n.given))
 
 -- tree T P [--vdd MV]
 abbrev pub tree_of : List (List ℕ) → Result Command UsageFault
-tree_of (t ∷ p ∷ words) = do
-  g ← options tree_takes 4 words
-  Ok (Tree t p (opts_of g))
-tree_of words = too_early words
+tree_of words = do
+  n ← named tree_takes words
+  Ok (Tree n.tables n.project (opts_of n.given))
 
 -- resolve T P [OPTIONS] [--workers N] [--proof]
 abbrev pub resolve_of : List (List ℕ) → Result Command UsageFault
-resolve_of (t ∷ p ∷ words) = do
-  g ← options resolve_takes 4 words
-  Ok (Resolve t p (opts_of g) (worker_count g) g.proof)
-resolve_of words = too_early words
+resolve_of words = do
+  n ← named resolve_takes words
+  Ok (Resolve n.tables n.project (opts_of n.given) (worker_count n.given) n.given.proof)
+
+-- ioc T P [OPTIONS] [--workers N]
+abbrev pub ioc_of : List (List ℕ) → Result Command UsageFault
+ioc_of words = do
+  n ← named ioc_takes words
+  Ok (Ioc n.tables n.project (opts_of n.given) (worker_count n.given))
+
+-- board T P [OPTIONS]
+abbrev pub board_of : List (List ℕ) → Result Command UsageFault
+board_of words = do
+  n ← named common words
+  Ok (Board n.tables n.project (opts_of n.given))
+
+-- explain T P [OPTIONS]
+abbrev pub explain_of : List (List ℕ) → Result Command UsageFault
+explain_of words = do
+  n ← named common words
+  Ok (Explain n.tables n.project (opts_of n.given))
 
 -- check T P PROOF [OPTIONS]
 abbrev pub check_of : List (List ℕ) → Result Command UsageFault
@@ -268,7 +297,10 @@ command_of (command ∷ words) =
     else (if bytes_eq command (codes "can") then can_of words
     else (if bytes_eq command (codes "i2s") then i2s_of words
     else (if bytes_eq command (codes "dma") then dma_of words
-    else Err (Word 1))))))))
+    else (if bytes_eq command (codes "ioc") then ioc_of words
+    else (if bytes_eq command (codes "board") then board_of words
+    else (if bytes_eq command (codes "explain") then explain_of words
+    else Err (Word 1)))))))))))
 
 -- The numbers that the grammar allows: what options gave, and what a command has.
 abbrev pub IsHertz : Option ℕ → Type 0
@@ -302,5 +334,8 @@ IsWithinLimits (Resolve t p opts workers proof) = HasLimits opts × IsWorkers wo
 IsWithinLimits (Check t p proof opts) = HasLimits opts
 IsWithinLimits (Case number workers) = IsWorkers workers
 IsWithinLimits (Can t p rate point tolerance) = IsBitTiming rate point tolerance
+IsWithinLimits (Ioc t p opts workers) = HasLimits opts × IsWorkers workers
+IsWithinLimits (Board t p opts) = HasLimits opts
+IsWithinLimits (Explain t p opts) = HasLimits opts
 IsWithinLimits (I2s t p rate) = (8000 ≤ rate) × (rate ≤ 192000)
 IsWithinLimits (Dma t requests workers) = ((1 ≤ length requests) × (length requests ≤ 16)) × IsWorkers workers

@@ -62,6 +62,25 @@ pub enum Command {
         project: Text,
         rate: u32,
     },
+    /// The text of the project with the least choice as its homes.
+    Ioc {
+        tables: Text,
+        project: Text,
+        opts: Opts,
+        workers: u32,
+    },
+    /// The least choice of pins, and of clocks beside them, of a board that is too wide for one rank.
+    Board {
+        tables: Text,
+        project: Text,
+        opts: Opts,
+    },
+    /// Why nothing fits and what to give up, or what the least choice changes.
+    Explain {
+        tables: Text,
+        project: Text,
+        opts: Opts,
+    },
 }
 
 /// The name of a table.
@@ -103,35 +122,50 @@ impl Command {
         ensures { IfOk result (λ names. names.items ≡ inputs_of self.now) }
     {
         match self {
-            Command::Pins {
-                tables,
-                project,
-                ..
-            } => two_names(alloc, tables, project),
-            Command::Tree {
-                tables,
-                project,
-                ..
-            } => two_names(alloc, tables, project),
-            Command::Resolve {
-                tables,
-                project,
-                ..
-            } => two_names(alloc, tables, project),
+            Command::Case { .. } => Ok(Vec::new(alloc)),
+            Command::Dma { tables, .. } => one_name(alloc, tables),
             Command::Check {
                 tables,
                 project,
                 proof,
                 ..
             } => three_names(alloc, tables, project, proof),
-            Command::Case { .. } => Ok(Vec::new(alloc)),
-            Command::Dma { tables, .. } => one_name(alloc, tables),
-            Command::Can {
+            Command::Pins {
                 tables,
                 project,
                 ..
-            } => two_names(alloc, tables, project),
-            Command::I2s {
+            }
+            | Command::Tree {
+                tables,
+                project,
+                ..
+            }
+            | Command::Resolve {
+                tables,
+                project,
+                ..
+            }
+            | Command::Can {
+                tables,
+                project,
+                ..
+            }
+            | Command::I2s {
+                tables,
+                project,
+                ..
+            }
+            | Command::Ioc {
+                tables,
+                project,
+                ..
+            }
+            | Command::Board {
+                tables,
+                project,
+                ..
+            }
+            | Command::Explain {
                 tables,
                 project,
                 ..
@@ -144,7 +178,10 @@ impl Command {
         ensures { result ≡ may_wait self.now }
     {
         match self {
-            Command::Resolve { .. } | Command::Case { .. } | Command::Dma { .. } => true,
+            Command::Resolve { .. }
+            | Command::Case { .. }
+            | Command::Dma { .. }
+            | Command::Ioc { .. } => true,
             _ => false,
         }
     }
@@ -157,6 +194,7 @@ impl Command {
             Command::Resolve { workers, .. } => *workers,
             Command::Case { workers, .. } => *workers,
             Command::Dma { workers, .. } => *workers,
+            Command::Ioc { workers, .. } => *workers,
             _ => 1,
         }
     }

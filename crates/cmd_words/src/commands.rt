@@ -1,100 +1,24 @@
 //! The words of each command.
 ghost use Rattle.std.specs.Prelude.{◌≡◌, map, string_bytes, IfOk};
 ghost use Rattle.cmd_words.specs.UsageFaults.{Gives};
-ghost use Rattle.cmd_words.specs.Words.{pins_takes, tree_takes, resolve_takes, check_takes, case_takes, pins_of, tree_of, resolve_of, check_of, case_of, can_of, i2s_of, command_of, IsWithinLimits};
+ghost use Rattle.cmd_words.specs.Words.{check_takes, case_takes, check_of, case_of, can_of, i2s_of, command_of, IsWithinLimits};
 
 use crate::command::Command;
 use crate::fault::UsageFault;
 use crate::given::Flag;
+use crate::on_projects::{
+    COMMON, read_board, read_explain, read_ioc, read_pins, read_resolve, read_tree,
+};
 use crate::options::{opts_of, read_options, worker_count};
 use crate::requests::read_dma;
 use crate::values::{allowed, number_of, point_of, rate_of, sample_rate_of, tolerance_of};
 use res_base::Text;
 use std::alloc::Global;
 
-const PINS: [Flag; 1] = [Flag::Need];
-
-const TREE: [Flag; 1] = [Flag::Vdd];
-
-const COMMON: [Flag; 6] = [
-    Flag::Vdd,
-    Flag::Need,
-    Flag::Hclk,
-    Flag::Pclk1,
-    Flag::Pclk2,
-    Flag::Free,
-];
-
-const RESOLVE: [Flag; 8] = [
-    Flag::Vdd,
-    Flag::Need,
-    Flag::Hclk,
-    Flag::Pclk1,
-    Flag::Pclk2,
-    Flag::Free,
-    Flag::Workers,
-    Flag::Proof,
-];
-
 const CASE: [Flag; 1] = [Flag::Workers];
 
 /// Commands without options.
 const NONE: [Flag; 0] = [];
-
-fn read_pins(alloc: Global, words: &[String]) -> Result<Command, UsageFault>
-    ensures gives { Gives (λ c. c) result (pins_of (map string_bytes words.now)) }
-    ensures limits { IfOk result IsWithinLimits }
-{
-    let [tables, project, words @ ..] = words else {
-        return Err(UsageFault::Word {
-            word: words.len() + 2,
-        });
-    };
-    let given = read_options(alloc, &PINS, words, 4)?;
-    Ok(Command::Pins {
-        tables: Text::copy(alloc, tables.as_str())?,
-        project: Text::copy(alloc, project.as_str())?,
-        opts: opts_of(given),
-    })
-}
-
-fn read_tree(alloc: Global, words: &[String]) -> Result<Command, UsageFault>
-    ensures gives { Gives (λ c. c) result (tree_of (map string_bytes words.now)) }
-    ensures limits { IfOk result IsWithinLimits }
-{
-    let [tables, project, words @ ..] = words else {
-        return Err(UsageFault::Word {
-            word: words.len() + 2,
-        });
-    };
-    let given = read_options(alloc, &TREE, words, 4)?;
-    Ok(Command::Tree {
-        tables: Text::copy(alloc, tables.as_str())?,
-        project: Text::copy(alloc, project.as_str())?,
-        opts: opts_of(given),
-    })
-}
-
-fn read_resolve(alloc: Global, words: &[String]) -> Result<Command, UsageFault>
-    ensures gives { Gives (λ c. c) result (resolve_of (map string_bytes words.now)) }
-    ensures limits { IfOk result IsWithinLimits }
-{
-    let [tables, project, words @ ..] = words else {
-        return Err(UsageFault::Word {
-            word: words.len() + 2,
-        });
-    };
-    let given = read_options(alloc, &RESOLVE, words, 4)?;
-    let workers = worker_count(&given);
-    let proof = given.proof;
-    Ok(Command::Resolve {
-        tables: Text::copy(alloc, tables.as_str())?,
-        project: Text::copy(alloc, project.as_str())?,
-        opts: opts_of(given),
-        workers,
-        proof,
-    })
-}
 
 fn read_check(alloc: Global, words: &[String]) -> Result<Command, UsageFault>
     ensures gives { Gives (λ c. c) result (check_of (map string_bytes words.now)) }
@@ -200,6 +124,9 @@ pub fn read_words(alloc: Global, words: &[String]) -> Result<Command, UsageFault
         "can" => read_can(alloc, words),
         "dma" => read_dma(alloc, words),
         "i2s" => read_i2s(alloc, words),
+        "ioc" => read_ioc(alloc, words),
+        "board" => read_board(alloc, words),
+        "explain" => read_explain(alloc, words),
         _ => Err(UsageFault::Word { word: 1 }),
     }
 }

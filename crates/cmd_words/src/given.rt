@@ -1,4 +1,4 @@
-//! What the options have given so far.
+//! What words have given so far.
 use res_base::{Items, Text};
 use res_model::Free;
 
@@ -26,4 +26,12 @@ pub struct Given {
     pub free: Option<Free>,
     pub workers: Option<u32>,
     pub proof: bool,
+}
+
+/// The names of a table and a project, and what the options behind them gave.
+#[derive(Debug, Drop)]
+pub struct Named {
+    pub tables: Text,
+    pub project: Text,
+    pub given: Given,
 }

@@ -6,6 +6,7 @@ mod commands;
 mod fault;
 mod flags;
 mod given;
+mod on_projects;
 mod options;
 mod requests;
 mod values;
@@ -14,6 +15,3 @@ pub use command::Command;
 pub use commands::read_words;
 pub use fault::UsageFault;
 pub use res_model::{Free, Opts};
-
-#[cfg(test)]
-mod tests;

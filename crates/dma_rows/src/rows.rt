@@ -1,12 +1,17 @@
 //! Wanted requests and what is due for them.
+ghost use Rattle.std.specs.Prelude.{◌≤◌};
+
 use answers::{Answer, Status};
 use dma_model::DmaTable;
 use dma_rules::{DmaFault, DmaWant, check_dma, dma_answer};
 use dma_table::read_dma;
 use refutation::{CheckFault, read_proof};
 use res_base::Text;
-use std::alloc::Global;
+use res_io::NoGate;
+use std::alloc::{AllocGlobal, Global};
+use std::sync::Wait;
 use std::test::Fail;
+use std::thread::Threads;
 
 /// Requests of which the last two have one stream each, and it is the same.
 fn shared() -> &'static str {
@@ -44,38 +49,55 @@ fn want_of(alloc: Global, text: &str, line: &str) -> Result<Result<DmaWant, u32>
     wanted(alloc, &table, words.as_slice())
 }
 
-/// Whether this is due for these words.
-fn is_due(
+/// Whether this is due for these words, by so many workers.
+fn is_due_by<R: Threads + Wait + Sync>(
+    rt: &R,
     alloc: Global,
+    table: &str,
+    line: &str,
+    workers: u32,
+    status: Status,
+    text: &str,
+) -> Result<bool, Fail>
+    requires { (1 ≤ workers) × (workers ≤ 16) }
+{
+    let Ok(want) = want_of(alloc, table, line)? else {
+        return Ok(false);
+    };
+    let answer: Answer = dma_answer(rt, alloc, want, workers, &NoGate)?;
+    Ok(answer.status == status && answer.text.as_slice() == text.as_bytes())
+}
+
+/// Whether this is due for these words, by one worker and by four.
+fn is_due(
+    rt: &(impl Threads + Wait + Sync + AllocGlobal),
     table: &str,
     line: &str,
     status: Status,
     text: &str,
 ) -> Result<bool, Fail> {
-    let Ok(want) = want_of(alloc, table, line)? else {
-        return Ok(false);
-    };
-    let answer: Answer = dma_answer(alloc, want)?;
-    Ok(answer.status == status && answer.text.as_slice() == text.as_bytes())
+    let alone = is_due_by(rt, rt.alloc(), table, line, 1, status, text)?;
+    let together = is_due_by(rt, rt.alloc(), table, line, 4, status, text)?;
+    Ok(alone && together)
 }
 
 #[test]
 fn the_second_row_of_one_request_serves_all(rt: HostRuntime) -> Result<(), Fail> {
     let held = is_due(
-        rt.alloc(),
+        &rt,
         shared(),
         "SPI1_RX ADC1 USART1_RX",
         Status::Done,
         "rank 10 cost 1 of 8\nSPI1_RX dma 2 stream 0 channel 3\nADC1 dma 2 stream 4 channel 0\nUSART1_RX dma 2 stream 2 channel 4\n",
     )?;
-    assert!(rt; held);
+    assert!(&rt; held);
     Ok(())
 }
 
 #[test]
 fn two_requests_of_one_stream_are_refuted(rt: HostRuntime) -> Result<(), Fail> {
     let held = is_due(
-        rt.alloc(),
+        &rt,
         shared(),
         "X Y",
         Status::NoChoice,
@@ -88,7 +110,7 @@ fn two_requests_of_one_stream_are_refuted(rt: HostRuntime) -> Result<(), Fail> {
 #[test]
 fn a_request_may_have_two_channels_of_one_stream(rt: HostRuntime) -> Result<(), Fail> {
     let held = is_due(
-        rt.alloc(),
+        &rt,
         channels(),
         "A B",
         Status::Done,
@@ -101,7 +123,7 @@ fn a_request_may_have_two_channels_of_one_stream(rt: HostRuntime) -> Result<(), 
 #[test]
 fn two_channels_of_one_stream_serve_one_request(rt: HostRuntime) -> Result<(), Fail> {
     let held = is_due(
-        rt.alloc(),
+        &rt,
         channels(),
         "D C A",
         Status::NoChoice,
@@ -114,7 +136,7 @@ fn two_channels_of_one_stream_serve_one_request(rt: HostRuntime) -> Result<(), F
 #[test]
 fn streams_of_two_controllers_are_two(rt: HostRuntime) -> Result<(), Fail> {
     let held = is_due(
-        rt.alloc(),
+        &rt,
         channels(),
         "D C",
         Status::Done,

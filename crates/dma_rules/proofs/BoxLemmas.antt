@@ -1,10 +1,9 @@
 -- Requests of a box and of a choice by their places.
-use Rattle.std.proofs.Common.{◌≡◌, ℕ, zero, suc, ◌+◌, ◌-◌, ◌<◌, ◌≤◌, ◌++◌, List, [], ◌∷◌, length, map, get_or, take, drop, Bool, true, false, ◌&&◌, ◌||◌, not, Option, inl, inr, refl, sym, subst, ap, ◌∙◌, add-one, arith}
+use Rattle.std.proofs.Common.{◌≡◌, ℕ, zero, suc, ◌+◌, ◌-◌, ◌<◌, ◌≤◌, ◌++◌, List, [], ◌∷◌, length, get_or, take, drop, Bool, true, false, ◌&&◌, ◌||◌, not, inl, inr, refl, sym, subst, ap, ◌∙◌, add-one, arith}
 use mathlib.Core.Path.{fun_ext}
 use Rattle.std.specs.Prelude.{nat_lt}
 use Rattle.std.specs.List.{list_any}
-use Rattle.std.proofs.lemmas.Bool.Decides.{nat_tests}
-use Rattle.std.proofs.lemmas.List.{drop_all, drop_more, length-map, take_all}
+use Rattle.std.proofs.lemmas.List.{drop_all, drop_more, take_all}
 use Rattle.res_base.specs.Lists.{Each}
 use Rattle.res_base.specs.Sums.{one_if, sum_below}
 use Rattle.res_base.specs.VarSet.{in_set, set_size}
@@ -14,14 +13,13 @@ use Rattle.choice_rank.specs.Choices.{IsChoice}
 use Rattle.box_split.specs.BoxIn.{runs_in}
 use Rattle.box_split.specs.Boxes.{IsBox, Run}
 use Rattle.pin_match.specs.Hall.{any_below, is_wanted}
-use Rattle.pin_match.specs.Largest.{hall_of}
 use Rattle.pin_match.specs.Sets.{fits_in}
 use Rattle.pin_match.proofs.SetLemmas as sets
 use Rattle.dma_model.specs.declared.table.DmaRequest.{DmaRequest}
 use Rattle.dma_model.specs.declared.table.DmaRow.{DmaRow}
-use Rattle.dma_rules.specs.Judged.{CanBeJudged, HasRows, IsStream, are_requests, can_have, has_stream, rows_in, shows_hall, stream_of, streams_of}
+use Rattle.dma_rules.specs.Judged.{HasRows, IsStream, are_requests, can_have, has_stream, rows_in, shows_hall, streams_of}
 use Rattle.dma_rules.specs.Lawful.{any_in}
-use Rattle.dma_rules.specs.Streams.{are_apart, is_one_stream, meets, no_request, no_row, row_at, row_of, rows_of, shape_of}
+use Rattle.dma_rules.specs.Streams.{are_apart, is_one_stream, no_request, no_row, row_at, row_of, rows_of, shape_of}
 
 abbrev pub run_at : List ℕ → List ℕ → ℕ → Run
 run_at lo hi v = record { low = get_or lo v 0; high = get_or hi v 0 }

@@ -1,12 +1,12 @@
 -- A legal choice by its requests two by two.
-use Rattle.std.proofs.Common.{◌≡◌, ◌≢◌, ℕ, ◌<◌, ◌==◌, List, length, get_or, Bool, true, false, ◌&&◌, inl, inr, refl, sym, subst, ◌∙◌, arith}
+use Rattle.std.proofs.Common.{◌≡◌, ℕ, ◌==◌, List, Bool, true, false, inl, inr, refl, sym, ◌∙◌, arith}
 use Rattle.std.proofs.lemmas.Bool.Decides.{nat_tests}
 use Rattle.res_base.proofs.SumLemmas.{bool_cases}
 use Rattle.choice_rank.specs.Choices.{IsChoice}
 use Rattle.dma_model.specs.declared.table.DmaRequest.{DmaRequest}
 use Rattle.dma_model.specs.declared.table.DmaRow.{DmaRow}
 use Rattle.dma_rules.specs.Lawful.{apart_of, pairs_of, parts_of}
-use Rattle.dma_rules.specs.Streams.{AreOnOwnStreams, is_one_stream, meets, no_row, row_of, rows_of, shape_of}
+use Rattle.dma_rules.specs.Streams.{AreOnOwnStreams, is_one_stream, meets, row_of, rows_of, shape_of}
 use Rattle.dma_rules.proofs.BoxLemmas.{as_many_rows}
 
 both_same : (a b : DmaRow) → a.controller ≡ b.controller → a.stream ≡ b.stream → is_one_stream a b ≡ true

@@ -1,5 +1,5 @@
 -- Internal: what the judge means is lawful.
-use Rattle.std.proofs.Common.{◌≡◌, ◌≢◌, ℕ, zero, suc, ◌+◌, ◌-◌, ◌*◌, ◌^◌, ◌<◌, ◌≤◌, ◌==◌, List, [], ◌∷◌, length, map, get_or, drop, Bool, true, false, cond, ◌&&◌, ◌||◌, not, leb, eqb, Option, Some, None, inl, inr, refl, sym, subst, ap, ◌∙◌, arith}
+use Rattle.std.proofs.Common.{◌≡◌, ℕ, zero, suc, ◌+◌, ◌-◌, ◌*◌, ◌^◌, ◌<◌, ◌≤◌, ◌==◌, List, [], ◌∷◌, length, get_or, drop, Bool, true, false, cond, ◌&&◌, ◌||◌, not, leb, eqb, Option, Some, None, inl, inr, refl, sym, subst, ap, ◌∙◌, arith}
 use Rattle.std.specs.Prelude.{is_some, nat_lt, slice_range}
 use Rattle.std.specs.List.{list_any}
 use Rattle.std.specs.Coded.{×_prop, Unit-prop, le_prop}
@@ -13,13 +13,12 @@ use Rattle.res_base.specs.Sums.{one_if, sum_below}
 use Rattle.res_base.specs.VarSet.{in_set}
 use Rattle.res_base.specs.declared.var_set.VarSet.{VarSet}
 use Rattle.res_base.proofs.SumLemmas.{at_most_one, bool_cases, le_or, pos_cases, some_below, split, sum_le, sum_same}
-use Rattle.choice_rank.specs.Choices.{HasPositions, HasSmallSizes, IsChoice, IsNarrow, IsShape, choices_of, cost_most, costs_most}
+use Rattle.choice_rank.specs.Choices.{HasPositions, HasSmallSizes, IsShape, choices_of, cost_most, costs_most}
 use Rattle.choice_rank.specs.declared.variable.Costs.TheVariants.{HomeFirst}
 use Rattle.choice_rank.specs.declared.variable.VarShape.{VarShape}
 use Rattle.box_split.specs.Boxes.{IsBox, LiesIn, Run, is_single, lows}
 use Rattle.pin_match.specs.Assignments.{IsAssignment, IsFull}
 use Rattle.pin_match.specs.Hall.{IsHall, any_below, is_wanted}
-use Rattle.pin_match.specs.Largest.{hall_of}
 use Rattle.pin_match.proofs.CountLemmas.{and_yes, both, has, inside, inside_users, users}
 use Rattle.pin_match.proofs.FreedLemmas.{none_is_full, some_is_hall}
 use Rattle.pin_match.proofs.HallLemmas.{some_any}
@@ -30,8 +29,8 @@ use Rattle.search_api.specs.declared.verdict.Reason.TheVariants.{Hall, Limit}
 use Rattle.search_api.specs.declared.verdict.Verdict.TheVariants as verdict
 use Rattle.dma_model.specs.declared.table.DmaRequest.{DmaRequest}
 use Rattle.dma_model.specs.declared.table.DmaRow.{DmaRow}
-use Rattle.dma_rules.specs.Judged.{CanBeJudged, HasRows, IsStream, are_requests, can_have, dma_meaning, hall_in, has_stream, rows_in, shows, shows_hall, stream_of, streams_of, verdict_from}
-use Rattle.dma_rules.specs.Streams.{AreOnOwnStreams, are_apart, is_one_stream, meets, no_row, row_at, row_of, rows_of, shape_of, variable_of}
+use Rattle.dma_rules.specs.Judged.{CanBeJudged, HasRows, IsStream, are_requests, can_have, dma_meaning, hall_in, has_stream, shows, shows_hall, stream_of, streams_of, verdict_from}
+use Rattle.dma_rules.specs.Streams.{are_apart, is_one_stream, meets, no_row, row_of, rows_of, shape_of}
 
 -- ---- tests
 

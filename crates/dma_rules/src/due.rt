@@ -1,5 +1,5 @@
 //! What is due for wanted requests.
-ghost use Rattle.std.specs.Prelude.{◌≡◌, None, Some, IfOk};
+ghost use Rattle.std.specs.Prelude.{◌≡◌, ◌≤◌, None, Some, IfOk};
 ghost use Rattle.choice_rank.specs.Least.{IsAnswer, NoneLegal};
 ghost use Rattle.search_api.specs.Accounts.{Accounted};
 ghost use Rattle.dma_rules.specs.Judged.{dma_meaning};
@@ -13,28 +13,30 @@ use crate::want::DmaWant;
 use answers::{Answer, Status};
 use refutation::{canonical, write_proof};
 use res_base::{Items, OutOfMemory};
+use res_io::Gate;
 use search_api::{Judge, Outcome};
-use serial_search::search;
 use std::alloc::Global;
+use std::sync::Wait;
+use std::thread::Threads;
+use steal_pool::search_by;
 
-/// What is due for wanted requests, by the search of one worker.
+/// What is due for wanted requests, by the search of 1 to 16 workers at a time.
 ///
 /// `Done`: the rank line of the choice of least rank in which no two requests take one stream, and a line for each
 /// request. `NoChoice`, exactly where there is no such choice: the canonical refutation.
-pub fn dma_answer(alloc: Global, w: DmaWant) -> Result<Answer, OutOfMemory>
+pub fn dma_answer<R: Threads + Wait + Sync, G: Gate + Sync>(
+    rt: &R,
+    alloc: Global,
+    w: DmaWant,
+    workers: u32,
+    gate: &G,
+) -> Result<Answer, OutOfMemory>
+    requires { (1 ≤ workers) × (workers ≤ 16) }
     ensures { IfOk result (OfWant w) }
 {
     let judge = DmaJudge::new(alloc, w)?;
-    let outcome = search(alloc, &judge)?;
-    dma_answer_of(alloc, &judge, &outcome)
-}
-
-/// The same by the outcome of any search that accounts for each choice.
-pub fn dma_answer_of(alloc: Global, j: &DmaJudge, o: &Outcome) -> Result<Answer, OutOfMemory>
-    requires { Accounted (dma_meaning j.now.want) o.now.best o.now.kept o.now.closed }
-    ensures { IfOk result (OfWant j.now.want) }
-{
-    told(alloc, j, o)
+    let outcome = search_by(rt, alloc, &judge, workers, gate)?;
+    told(alloc, &judge, &outcome)
 }
 
 /// What is due for the rank of the least choice, or for none.

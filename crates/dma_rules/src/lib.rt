@@ -11,7 +11,7 @@ mod streams;
 mod want;
 
 pub use checker::check_dma;
-pub use due::{dma_answer, dma_answer_of};
+pub use due::dma_answer;
 pub use judge::{DmaJudge, DmaRoom};
 pub use laws::{legal_choices_share_no_stream, verdicts_are_lawful};
 pub use want::{DmaFault, DmaWant};

@@ -1,5 +1,5 @@
 -- No reader refuses a made case, and its ranks fit: only the least choice of its problem is due.
-use Rattle.std.proofs.Common.{◌≡◌, ◌∙◌, ℕ, List, Bool, true, Result, Ok, Err, ap, subst}
+use Rattle.std.proofs.Common.{◌≡◌, ◌∙◌, ℕ, List, true, Result, Ok, ap, subst}
 use Rattle.std.specs.Prelude.{MatchResult}
 use Rattle.answers.specs.declared.answer.Answer.{Answer}
 use Rattle.answers.specs.declared.answer.Status.TheVariants.{TableRefused, ProjectRefused}

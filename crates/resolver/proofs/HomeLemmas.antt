@@ -1,15 +1,14 @@
 -- Homes that are in their domains are a choice that a table may allow.
-use Rattle.std.proofs.Common.{◌≡◌, ◌⊎◌, ℕ, zero, suc, ◌<◌, ◌≤◌, ◌==◌, ◌&&◌, ◌||◌, List, [], ◌∷◌, Bool, true, false, cond, length, get_or, Result, Ok, Err, inl, inr, refl, sym, subst, arith}
+use Rattle.std.proofs.Common.{◌≡◌, ℕ, zero, suc, ◌<◌, ◌≤◌, ◌==◌, ◌&&◌, ◌||◌, List, [], ◌∷◌, Bool, true, false, cond, length, get_or, Ok, Err, inl, inr, refl, sym, subst, arith}
 use Rattle.std.specs.Prelude.{nat_le, nat_lt}
 use Rattle.std.specs.List.{list_all, list_any}
 use Rattle.std.proofs.lemmas.Bool.Decides.{nat_tests}
 use Rattle.std.proofs.lemmas.Grind.{common_steps}
 use Rattle.res_base.specs.Lists.{Each, Member}
-use Rattle.res_model.specs.Clock.{IsInRange, IsOscillator}
-use Rattle.ioc_project.specs.Project.{all_within, domain_tests, is_among, is_within}
+use Rattle.res_model.specs.Clock.{IsOscillator}
+use Rattle.ioc_project.specs.Project.{all_within, domain_tests, is_among}
 use Rattle.res_model.specs.ClockValues.{ahb_dividers, apb_dividers, pll_dividers, known_scales}
-use Rattle.res_model.specs.Valid.{AreDomains, AreAmong, IsRange}
-use Rattle.ioc_project.specs.declared.fault.ProjectFault.{ProjectFault}
+use Rattle.res_model.specs.Valid.{AreDomains}
 use Rattle.ioc_project.specs.declared.fault.ProjectFault.TheVariants.{OutOfTable}
 use Rattle.res_model.specs.declared.project.Home.{Home}
 use Rattle.res_model.specs.declared.table.Domains.{Domains}

@@ -1,67 +1,33 @@
 -- What is owed for inputs, from what is owed for their bytes.
-use Rattle.std.proofs.Common.{◌≡◌, ◌≢◌, ◌∙◌, inl, inr, ℕ, zero, suc, ◌+◌, ◌<◌, ◌≤◌, List, [], ◌∷◌, ◌++◌, length, map, Bool, true, false, Option, Some, None, Result, Ok, Err, ap, refl, sym, subst, arith, get_or}
-use Rattle.std.specs.Prelude.{IfOk, IfSome, MatchBool, MatchOption, codes, nat_lt, slice_index_or, if◌then◌else◌}
-use Rattle.std.proofs.lemmas.Bool.Decides.{nat_tests}
+use Rattle.std.proofs.Common.{◌≡◌, ◌≢◌, ◌∙◌, inl, inr, ℕ, zero, suc, ◌<◌, ◌≤◌, List, [], ◌∷◌, ◌++◌, length, map, false, Option, Some, Result, Ok, Err, ap, refl, sym, subst, arith}
+use Rattle.std.specs.Prelude.{IfOk, MatchOption, codes, slice_index_or}
 use Rattle.answers.specs.Said.{Says, answered, number_of}
 use Rattle.answers.specs.declared.answer.Answer.{Answer}
 use Rattle.answers.specs.declared.answer.Status.{Status}
-use Rattle.answers.specs.declared.answer.Status.TheVariants.{NotBuilt, OutOfMemory, ReadFailed, TooLong, Usage}
-use Rattle.call_io.proofs.ServedLemmas.{answered_for, ends_as_usage, two_is_usage, written_is_no_usage}
-use Rattle.call_io.specs.Gathered.{AllRead, AreSeen, IsOfInputs, IsRead}
-use Rattle.call_io.specs.Inputs.{Files, Input, Reads, Wrote, first_long, inputs_told}
-use Rattle.call_io.specs.Ran.{Ended, IsOwn, IsWritten, Served}
-use Rattle.cmd_words.specs.Asked.{inputs_of, workers_asked}
+use Rattle.answers.specs.declared.answer.Status.TheVariants.{OutOfMemory, TooLong, Usage}
+use Rattle.call_io.proofs.ServedLemmas.{answered_for, ends_as_usage, two_is_usage}
+use Rattle.call_io.specs.Gathered.{AllRead, AreSeen, IsOfInputs}
+use Rattle.call_io.specs.Inputs.{Files, Input, Reads, Wrote, first_long}
+use Rattle.call_io.specs.Ran.{Ended, IsWritten, Served}
 use Rattle.cmd_words.specs.UsageFaults.{Refuses}
 use Rattle.cmd_words.specs.declared.command.Command.{Command}
 use Rattle.cmd_words.specs.declared.fault.UsageFault.{UsageFault}
 use Rattle.cmd_words.specs.declared.fault.UsageFault.TheVariants as words
 use Rattle.res_base.specs.Lists.{Each}
-use Rattle.resolver.specs.Due.{Due, IsUsage, OfBytes, OfCommand, OfInputs, input_at, names_of, waits}
+use Rattle.resolver.specs.Due.{Due, IsUsage, OfBytes, OfCommand, names_of, waits}
 use Rattle.resolver.specs.Opening.{AreInputs}
 use Rattle.resolver.specs.Refusals.{words_refusal}
 
--- one worker is served
-alone : (n : ℕ) → n ≤ 1 → nat_lt 1 n ≡ false
-alone n l = grind (arith, nat_tests, l)
-
-served_alone : (c : Command) (inputs : List Input) (a : Answer) → workers_asked c ≤ 1 → OfInputs c inputs a → OfCommand c inputs a
-served_alone c inputs a l due = subst (λ (b : Bool). MatchBool b (Says a NotBuilt (codes "not built: workers")) (OfInputs c inputs a)) (sym (alone (workers_asked c) l)) due
-
 -- inputs that were read
-pub read_whole : (c : Command) (read : List (List ℕ)) (a : Answer) → workers_asked c ≤ 1 → OfBytes c read a → (inputs : List Input) → AreSeen read inputs → OfCommand c inputs a
-read_whole c read a l due inputs seen =
-    served_alone c inputs a l
-    (subst (λ (o : Option (List ℕ)). MatchOption o (OfBytes c (map (λ (i : Input). i.bytes) inputs) a) (λ name. Says a TooLong (codes "too long: " ++ name))) (sym seen.none_long)
-    (subst (λ (bytes : List (List ℕ)). OfBytes c bytes a) (sym seen.bytes) due))
+pub read_whole : (c : Command) (read : List (List ℕ)) (a : Answer) → OfBytes c read a → (inputs : List Input) → AreSeen read inputs → OfCommand c inputs a
+read_whole c read a due inputs seen =
+    subst (λ (o : Option (List ℕ)). MatchOption o (OfBytes c (map (λ (i : Input). i.bytes) inputs) a) (λ name. Says a TooLong (codes "too long: " ++ name))) (sym seen.none_long)
+    (subst (λ (bytes : List (List ℕ)). OfBytes c bytes a) (sym seen.bytes) due)
 
 -- an input that is too long
-pub too_long : (c : Command) (a : Answer) → workers_asked c ≤ 1 → (inputs : List Input) (name : List ℕ) → first_long inputs ≡ Some name → Says a TooLong (codes "too long: " ++ name) → OfCommand c inputs a
-too_long c a l inputs name first says =
-    served_alone c inputs a l
-    (subst (λ (o : Option (List ℕ)). MatchOption o (OfBytes c (map (λ (i : Input). i.bytes) inputs) a) (λ n. Says a TooLong (codes "too long: " ++ n))) (sym first) says)
-
--- more than one worker is refused
-pub many : (c : Command) (inputs : List Input) (a : Answer) → 1 < workers_asked c → Says a NotBuilt (codes "not built: workers") → OfCommand c inputs a
-many c inputs a l says = subst (λ (b : Bool). MatchBool b (Says a NotBuilt (codes "not built: workers")) (OfInputs c inputs a)) (sym (more (workers_asked c) l)) says
-  where
-    more : (n : ℕ) → 1 < n → nat_lt 1 n ≡ true
-    more n k = grind (arith, nat_tests, k)
-
--- that answer is one that a call gives, whatever the inputs are
-pub unbuilt : (c : Command) (before : Reads) (a : Answer) → 1 < workers_asked c → Says a NotBuilt (codes "not built: workers") → Served (inputs_of c) (OfCommand c) before before a
-unbuilt c before a l says =
-    let status : a.status ≡ NotBuilt = ap (λ (x : Answer). x.status) says in
-    record {
-      own = subst IsOwn (sym status) (record { no_write_fault = λ e. absurd cc; no_memory = λ e. absurd cc });
-      due = λ no. each_told (inputs_told before.files (inputs_of c));
-      failed = λ e. let k : NotBuilt ≡ ReadFailed = sym status ∙ e in absurd cc;
-      too_long = λ e. let k : NotBuilt ≡ TooLong = sym status ∙ e in absurd cc;
-      told = λ built name m over. absurd (built status);
-    }
-  where
-    each_told : (o : Option (List Input)) → IfSome o (λ inputs. OfCommand c inputs a)
-    each_told None = tt
-    each_told (Some inputs) = many c inputs a l says
+pub too_long : (c : Command) (a : Answer) (inputs : List Input) (name : List ℕ) → first_long inputs ≡ Some name → Says a TooLong (codes "too long: " ++ name) → OfCommand c inputs a
+too_long c a inputs name first says =
+    subst (λ (o : Option (List ℕ)). MatchOption o (OfBytes c (map (λ (i : Input). i.bytes) inputs) a) (λ n. Says a TooLong (codes "too long: " ++ n))) (sym first) says
 
 -- the inputs that were read, as a command takes them
 pub as_inputs : (files : Files) (names read : List (List ℕ)) → AllRead files names read → AreInputs (length names) read

@@ -1,20 +1,31 @@
 -- The status of a problem is none of those that only reading, writing or a lack of memory has.
-use Rattle.std.proofs.Common.{◌≡◌, ◌≢◌, ◌∙◌, ℕ, List, Bool, Option, Result, Ok, Err, ap, subst, sym}
+use Rattle.std.proofs.Common.{◌≡◌, ℕ, List, Bool, Option, ap, subst, sym}
 use Rattle.answers.specs.Said.{answered}
 use Rattle.answers.specs.declared.answer.Answer.{Answer}
 use Rattle.answers.specs.declared.answer.Status.{Status}
-use Rattle.answers.specs.declared.answer.Status.TheVariants.{Done, NoChoice, TooWide, TableRefused, ProjectRefused, ProofRefused, RequestRefused, ReadFailed, TooLong, WriteFailed, OutOfMemory}
+use Rattle.answers.specs.declared.answer.Status.TheVariants.{Done, NoChoice, TooWide, TableRefused, ProofRefused, WriteBackRefused, RequestRefused}
+use Rattle.board_fit.specs.Board.{OfBoard}
+use Rattle.board_fit.specs.Board as board
 use Rattle.call_io.specs.Gathered.{IsOfBytes}
 use Rattle.dma_rules.specs.Texts as dma
 use Rattle.dma_model.specs.declared.table.DmaRequest.{DmaRequest}
+use Rattle.explain.specs.Due.{OfExplain, OfNarrow}
+use Rattle.explain.specs.Due as explain
 use Rattle.i2s_pll.specs.Due as i2s
+use Rattle.ioc_answer.specs.Owed.{OfIoc}
+use Rattle.ioc_answer.specs.Owed as ioc
 use Rattle.res_model.specs.declared.clock.ClockChoice.{ClockChoice}
 use Rattle.res_model.specs.declared.clock.Facts.{Facts}
 use Rattle.res_model.specs.declared.table.TableParts.{TableParts}
 use Rattle.can_timing.specs.Texts as can
 use Rattle.can_timing.specs.declared.request.Request.{Request}
 use Rattle.problem.specs.declared.parts.ProblemParts.{ProblemParts}
+use Rattle.problem.specs.Problem.{problem_of}
+use Rattle.problem.specs.declared.parts.Part.TheVariants.{Whole}
 use Rattle.refutation.specs.declared.node.Node.{Node}
+use Rattle.res_model.specs.declared.opts.Opts.{Opts}
+use Rattle.res_model.specs.declared.project.Home.{Home}
+use Rattle.res_model.specs.declared.project.Project.{Project}
 use Rattle.solver.specs.Owed.{OfCase, OfNodes, OfPins, OfProblem, OfProof, OfWhole}
 use Rattle.solver.specs.Owed as owed
 
@@ -32,6 +43,9 @@ proof_refused = record { of_inputs = record { own = record { no_write_fault = λ
 
 table_refused : IsOfBytes TableRefused
 table_refused = record { of_inputs = record { own = record { no_write_fault = λ e. absurd cc; no_memory = λ e. absurd cc }; no_read_fault = λ e. absurd cc; no_length = λ e. absurd cc }; no_usage = λ e. absurd cc }
+
+write_back_refused : IsOfBytes WriteBackRefused
+write_back_refused = record { of_inputs = record { own = record { no_write_fault = λ e. absurd cc; no_memory = λ e. absurd cc }; no_read_fault = λ e. absurd cc; no_length = λ e. absurd cc }; no_usage = λ e. absurd cc }
 
 request_refused : IsOfBytes RequestRefused
 request_refused = record { of_inputs = record { own = record { no_write_fault = λ e. absurd cc; no_memory = λ e. absurd cc }; no_read_fault = λ e. absurd cc; no_length = λ e. absurd cc }; no_usage = λ e. absurd cc }
@@ -54,6 +68,25 @@ of_pins p a (owed.unplaced no_legal says) = at a NoChoice _ says no_choice
 pub of_whole : (proof : Bool) (p : ProblemParts) (a : Answer) → OfWhole proof p a → IsOfBytes a.status
 of_whole proof p a (owed.solved c more low sound read_back asked e) = at a Done _ e done
 of_whole proof p a (owed.refuted text no_legal shown e) = at a NoChoice _ e no_choice
+
+pub of_board : (q w : ProblemParts) (a : Answer) → OfBoard q w a → IsOfBytes a.status
+of_board q w a (board.wide v not_narrow first says) = at a TooWide _ says too_wide
+of_board q w a (board.narrow is_narrow (board.solved c least sound read_back e)) = at a Done _ e done
+of_board q w a (board.narrow is_narrow (board.refuted text no_legal shown e)) = at a NoChoice _ e no_choice
+
+pub of_ioc : (text : List ℕ) (p : ProblemParts) (a : Answer) → OfIoc text p a → IsOfBytes a.status
+of_ioc text p a (ioc.back c out least is e) = at a Done _ e done
+of_ioc text p a (ioc.unnumbered c least is says) = at a WriteBackRefused _ says write_back_refused
+of_ioc text p a (ioc.long c line least is says) = at a WriteBackRefused _ says write_back_refused
+of_ioc text p a (ioc.none no_legal says) = at a NoChoice _ says no_choice
+
+of_narrow : (homes : List Home) (p : ProblemParts) (text : List ℕ) (opts : Opts) (a : Answer) → OfNarrow homes p text opts a → IsOfBytes a.status
+of_narrow homes p text opts a (explain.fits c least e) = at a Done _ e done
+of_narrow homes p text opts a (explain.refused nodes lines helps no_legal shown read tells e) = at a NoChoice _ e no_choice
+
+pub of_explain : (t : TableParts) (p : Project) (text : List ℕ) (opts : Opts) (a : Answer) → OfExplain t p text opts a → IsOfBytes a.status
+of_explain t p text opts a (explain.wide v not_narrow first says) = at a TooWide _ says too_wide
+of_explain t p text opts a (explain.narrow is_narrow due) = of_narrow p.clock (problem_of t p opts Whole) text opts a due
 
 pub of_case : (number : ℕ) (p : ProblemParts) (a : Answer) → OfCase number p a → IsOfBytes a.status
 of_case number p a (owed.made c low e) = at a Done _ e done

@@ -1,17 +1,21 @@
 -- The status and the text that are due for words and the inputs that they name, where nothing of the outside fails.
-use Rattle.std.specs.Prelude.{◌≡◌, ◌⊎◌, ℕ, List, [], ◌∷◌, ◌++◌, map, Bool, true, false, nat_lt, Option, Some, None, Result, Ok, Err, MatchResult, MatchOption, MatchBool, codes, decimal, slice_index_or}
+use Rattle.std.specs.Prelude.{◌≡◌, ◌⊎◌, ℕ, List, [], ◌++◌, map, Bool, true, false, Result, Ok, Err, MatchResult, MatchOption, codes, slice_index_or}
 use Rattle.answers.specs.Said.{Says, answered}
 use Rattle.answers.specs.declared.answer.Answer.{Answer}
-use Rattle.answers.specs.declared.answer.Status.TheVariants.{Done, Usage, TooLong, NotBuilt}
+use Rattle.answers.specs.declared.answer.Status.TheVariants.{Done, Usage, TooLong}
+use Rattle.board_fit.specs.Board.{OfBoard}
+use Rattle.board_fit.specs.Parts.{pins_of, whole_of}
 use Rattle.call_io.specs.Inputs.{Input, first_long}
 use Rattle.can_timing.specs.Texts as can
 use Rattle.can_timing.specs.declared.request.Request.{Request}
 use Rattle.case_rules.specs.CaseProblem.{case_problem}
-use Rattle.cmd_words.specs.Asked.{inputs_of, may_wait, workers_asked}
+use Rattle.cmd_words.specs.Asked.{inputs_of, may_wait}
 use Rattle.cmd_words.specs.declared.command.Command.{Command}
-use Rattle.cmd_words.specs.declared.command.Command.TheVariants.{Pins, Tree, Resolve, Check, Case, Can, I2s, Dma}
+use Rattle.cmd_words.specs.declared.command.Command.TheVariants.{Pins, Tree, Resolve, Check, Case, Can, I2s, Dma, Ioc, Board, Explain}
 use Rattle.cmd_words.specs.declared.fault.UsageFault.{UsageFault}
+use Rattle.explain.specs.Due.{OfExplain}
 use Rattle.i2s_pll.specs.Due.{OfI2s}
+use Rattle.ioc_answer.specs.Owed.{OfIoc}
 use Rattle.problem.specs.Problem.{problem_of}
 use Rattle.problem.specs.declared.parts.Part.TheVariants.{PinsOnly, Whole}
 use Rattle.project_reading.specs.Reading.{project_from}
@@ -52,6 +56,18 @@ ResolveTask opts proof t p a = OfProblem (problem_of t p opts Whole) (OfWhole pr
 abbrev pub CheckTask : Opts → List ℕ → Task
 CheckTask opts text t p a = OfProblem (problem_of t p opts Whole) (OfProof text (problem_of t p opts Whole)) a
 
+-- `board`: the least choice of pins and clocks over ranks of any size, or the refutation of all
+abbrev pub BoardTask : Opts → Task
+BoardTask opts t p a = OfBoard (pins_of t p opts) (whole_of t p opts) a
+
+-- `ioc`: the text of the project with the least choice as its homes
+abbrev pub IocTask : Opts → List ℕ → Task
+IocTask opts text t p a = OfProblem (problem_of t p opts Whole) (OfIoc text (problem_of t p opts Whole)) a
+
+-- `explain`: what the least choice changes, or why there is none and what helps
+abbrev pub ExplainTask : Opts → List ℕ → Task
+ExplainTask opts text t p a = OfExplain t p text opts a
+
 -- what a CAN bus asks for, on PCLK1 of the homes
 abbrev pub bus : TableParts → Project → ℕ → ℕ → ℕ → Request
 bus t p rate point tolerance = record { pclk = (home_nodes t p no_options).pclk1; rate = rate; point = point; tolerance = tolerance }
@@ -73,15 +89,14 @@ OfBytes (Check tables project proof opts) files a = OverProject opts true (Check
 OfBytes (Case number workers) files a = OfCase number (case_problem number) a
 OfBytes (Can tables project rate point tolerance) files a = OverProject no_options true (CanTask rate point tolerance) files a
 OfBytes (I2s tables project rate) files a = OverProject no_options true (I2sTask rate) files a
+OfBytes (Ioc tables project opts workers) files a = OverProject opts true (IocTask opts (input_at files 1)) files a
+OfBytes (Explain tables project opts) files a = OverProject opts true (ExplainTask opts (input_at files 1)) files a
+OfBytes (Board tables project opts) files a = OverProject opts true (BoardTask opts) files a
 OfBytes (Dma tables requests workers) files a = OfRequestsIn requests (input_at files 0) a
 
 -- each input is read whole before any is looked at
-abbrev pub OfInputs : Command → List Input → Answer → Type 0
-OfInputs command inputs a = MatchOption (first_long inputs) (OfBytes command (map (λ (i : Input). i.bytes) inputs) a) (λ name. Says a TooLong (codes "too long: " ++ name))
-
--- more than one worker is not served yet
 abbrev pub OfCommand : Command → List Input → Answer → Type 0
-OfCommand command inputs a = MatchBool (nat_lt 1 (workers_asked command)) (Says a NotBuilt (codes "not built: workers")) (OfInputs command inputs a)
+OfCommand command inputs a = MatchOption (first_long inputs) (OfBytes command (map (λ (i : Input). i.bytes) inputs) a) (λ name. Says a TooLong (codes "too long: " ++ name))
 
 -- what is due for a command, or for words that have no reading
 abbrev pub Due : Result Command UsageFault → List Input → Answer → Type 0

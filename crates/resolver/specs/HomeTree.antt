@@ -1,5 +1,5 @@
 -- The clock tree of a project's homes.
-use Rattle.std.specs.Prelude.{◌≡◌, ◌<◌, ◌==◌, ◌++◌, ℕ, List, [], ◌∷◌, Option, Some, None, codes, decimal, slice_index_or, if◌then◌else◌}
+use Rattle.std.specs.Prelude.{◌<◌, ◌==◌, ◌++◌, ℕ, List, [], ◌∷◌, Option, Some, None, codes, decimal, slice_index_or, if◌then◌else◌}
 use Rattle.res_model.specs.Clock.{IsInRange, facts_of, hclk_of, nodes_of}
 use Rattle.clock_tree.specs.ClockText.{clock_text}
 use Rattle.res_model.specs.Limits.{broken_limit}

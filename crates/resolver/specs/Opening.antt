@@ -1,5 +1,5 @@
 -- Internal: what the functions of the commands hand on.
-use Rattle.std.specs.Prelude.{◌≡◌, ◌≤◌, ℕ, List, length, Bool, true, Result, Ok, Err, MatchResult}
+use Rattle.std.specs.Prelude.{◌≡◌, ◌≤◌, ℕ, List, length, true, MatchResult}
 use Rattle.answers.specs.declared.answer.Answer.{Answer}
 use Rattle.big_case.specs.Case.{project_text, table_text}
 use Rattle.case_rules.specs.Options.{case_opts}

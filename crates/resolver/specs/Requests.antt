@@ -1,5 +1,5 @@
 -- What is due for DMA requests and the bytes of a table.
-use Rattle.std.specs.Prelude.{ℕ, List, ◌++◌, Result, Ok, Err, MatchResult, codes, decimal}
+use Rattle.std.specs.Prelude.{ℕ, List, ◌++◌, MatchResult, codes, decimal}
 use Rattle.answers.specs.Said.{Says}
 use Rattle.answers.specs.declared.answer.Answer.{Answer}
 use Rattle.answers.specs.declared.answer.Status.TheVariants.{RequestRefused, TableRefused}

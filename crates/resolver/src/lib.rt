@@ -6,9 +6,7 @@ mod home_tree;
 mod on_homes;
 mod refusals;
 mod streams;
+mod threads;
 mod top;
 
 pub use top::{run, run_all_surely, run_plain, run_surely};
-
-#[cfg(test)]
-mod tests;

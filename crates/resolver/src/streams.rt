@@ -12,17 +12,28 @@ use dma_rules::{DmaFault, DmaWant, dma_answer};
 use dma_table::read_dma;
 use project_reading::refused_table;
 use res_base::{Items, OutOfMemory, Text};
+use res_io::Gate;
 use std::alloc::Global;
+use std::sync::Wait;
+use std::thread::Threads;
 
 /// What is due for the requests that words name.
-fn requested(alloc: Global, table: &DmaTable, words: &[Text]) -> Result<Answer, OutOfMemory>
+fn requested<R: Threads + Wait + Sync, G: Gate + Sync>(
+    rt: &R,
+    alloc: Global,
+    table: &DmaTable,
+    words: &[Text],
+    workers: u32,
+    gate: &G,
+) -> Result<Answer, OutOfMemory>
     requires some { 1 ≤ length words.now }
     requires few { length words.now ≤ 16 }
+    requires workers { (1 ≤ workers) × (workers ≤ 16) }
     ensures due { IfOk result (OfRequests words.now table.now) }
     ensures status { IfOk result (λ a. IsOfBytes a.status) }
 {
     match DmaWant::new(alloc, table, words) {
-        Ok(want) => dma_answer(alloc, want),
+        Ok(want) => dma_answer(rt, alloc, want, workers, gate),
         Err(DmaFault::Request { number }) => counts(
             alloc,
             Status::RequestRefused,
@@ -33,16 +44,24 @@ fn requested(alloc: Global, table: &DmaTable, words: &[Text]) -> Result<Answer, 
     }
 }
 
-/// `dma`: streams for requests.
-pub(crate) fn dma(alloc: Global, files: &[Items<u8>], words: &[Text]) -> Result<Answer, OutOfMemory>
+/// `dma`: streams for requests, by so many workers.
+pub(crate) fn dma<R: Threads + Wait + Sync, G: Gate + Sync>(
+    rt: &R,
+    alloc: Global,
+    files: &[Items<u8>],
+    words: &[Text],
+    workers: u32,
+    gate: &G,
+) -> Result<Answer, OutOfMemory>
     requires files { AreInputs 1 files.now }
     requires some { 1 ≤ length words.now }
     requires few { length words.now ≤ 16 }
+    requires workers { (1 ≤ workers) × (workers ≤ 16) }
     ensures due { IfOk result (OfRequestsIn words.now (input_at files.now 0)) }
     ensures status { IfOk result (λ a. IsOfBytes a.status) }
 {
     match read_dma(alloc, input_at(files, 0, 1)) {
-        Ok(table) => requested(alloc, &table, words),
+        Ok(table) => requested(rt, alloc, &table, words, workers, gate),
         Err(fault) => refused_table(alloc, fault),
     }
 }

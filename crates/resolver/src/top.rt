@@ -4,7 +4,7 @@ ghost use Rattle.answers.specs.Said.{number_of};
 ghost use Rattle.answers.specs.declared.answer.Status.TheVariants as status;
 ghost use Rattle.call_io.specs.Inputs.{Reads, reads, wrote};
 ghost use Rattle.call_io.specs.Ran.{Answers, Ended, NoneFailed, Ran, Served};
-ghost use Rattle.cmd_words.specs.Asked.{inputs_of, workers_asked};
+ghost use Rattle.cmd_words.specs.Asked.{inputs_of, may_wait};
 ghost use Rattle.cmd_words.specs.UsageFaults.{Refuses};
 ghost use Rattle.cmd_words.specs.Words.{IsWithinLimits, command_of};
 ghost use Rattle.cmd_words.specs.declared.command.Command.{Command};
@@ -14,7 +14,8 @@ ghost use Rattle.resolver.specs.Due.{Due, IsUsage, OfCommand, names_of, waits};
 
 use crate::commands::of_bytes;
 use crate::refusals::refused_words;
-use answers::{Answer, Status, says};
+use crate::threads::of_bytes_by;
+use answers::{Answer, Status};
 use call_io::{Gathered, gather, write_answer};
 use cmd_words::{Command, UsageFault, read_words};
 use res_base::{OutOfMemory, Text};
@@ -23,7 +24,7 @@ use std::alloc::Global;
 use std::sync::Wait;
 use std::thread::Threads;
 
-/// Reads the inputs of these names, which are those of a command, and makes its answer.
+/// Reads the inputs of these names, which are those of a command that starts no threads, and makes its answer.
 fn answer_over<I: Inputs>(
     alloc: Global,
     command: Command,
@@ -31,8 +32,8 @@ fn answer_over<I: Inputs>(
     names: &[Text],
 ) -> Result<Answer, OutOfMemory>
     requires names { names.now ≡ inputs_of command }
-    requires alone { workers_asked command ≤ 1 }
     requires limits { IsWithinLimits command }
+    requires plain { may_wait command ≡ false }
     ensures served { IfOk result (Served (inputs_of command) (OfCommand command)
         (reads (I.files inputs.old) (I.faults inputs.old) (I.current inputs.old) (I.taken inputs.old))
         (reads (I.files inputs.new) (I.faults inputs.new) (I.current inputs.new) (I.taken inputs.new))) }
@@ -44,24 +45,23 @@ fn answer_over<I: Inputs>(
     }
 }
 
-/// Reads what a command reads, and makes its answer.
+/// Reads what a command reads that starts no threads, and makes its answer.
 fn answer<I: Inputs>(alloc: Global, command: Command, inputs: &mut I) -> Result<Answer, OutOfMemory>
-    requires { IsWithinLimits command }
+    requires limits { IsWithinLimits command }
+    requires plain { may_wait command ≡ false }
     ensures served { IfOk result (Served (inputs_of command) (OfCommand command)
         (reads (I.files inputs.old) (I.faults inputs.old) (I.current inputs.old) (I.taken inputs.old))
         (reads (I.files inputs.new) (I.faults inputs.new) (I.current inputs.new) (I.taken inputs.new))) }
     ensures no_usage { IfOk result (λ a. a.status ≢ status.Usage) }
 {
-    if command.workers() > 1 {
-        return says(alloc, Status::NotBuilt, "not built: workers");
-    }
     let names = command.inputs(alloc)?;
     answer_over(alloc, command, inputs, names.as_slice())
 }
 
-/// Does what a command asks for.
+/// Does what a command asks for that starts no threads.
 fn serve<I: Inputs, K: Sink>(alloc: Global, command: Command, inputs: &mut I, out: &mut K) -> Status
-    requires { IsWithinLimits command }
+    requires limits { IsWithinLimits command }
+    requires plain { may_wait command ≡ false }
     ensures ended { Ended (inputs_of command) (OfCommand command)
         (reads (I.files inputs.old) (I.faults inputs.old) (I.current inputs.old) (I.taken inputs.old))
         (reads (I.files inputs.new) (I.faults inputs.new) (I.current inputs.new) (I.taken inputs.new))
@@ -69,6 +69,66 @@ fn serve<I: Inputs, K: Sink>(alloc: Global, command: Command, inputs: &mut I, ou
     ensures no_usage { result ≢ status.Usage }
 {
     let answer = answer(alloc, command, inputs);
+    write_answer(out, &answer)
+}
+
+/// Reads the inputs of these names, which are those of a command, and makes its answer by as many workers as it asks for.
+fn answer_over_by<R: Threads + Wait + Sync, I: Inputs, G: Gate + Sync>(
+    rt: &R,
+    alloc: Global,
+    command: Command,
+    inputs: &mut I,
+    names: &[Text],
+    gate: &G,
+) -> Result<Answer, OutOfMemory>
+    requires names { names.now ≡ inputs_of command }
+    requires limits { IsWithinLimits command }
+    ensures served { IfOk result (Served (inputs_of command) (OfCommand command)
+        (reads (I.files inputs.old) (I.faults inputs.old) (I.current inputs.old) (I.taken inputs.old))
+        (reads (I.files inputs.new) (I.faults inputs.new) (I.current inputs.new) (I.taken inputs.new))) }
+    ensures no_usage { IfOk result (λ a. a.status ≢ status.Usage) }
+{
+    match gather(alloc, inputs, names)? {
+        Gathered::Files(files) => of_bytes_by(rt, alloc, command, files.as_slice(), gate),
+        Gathered::Refused(answer) => Ok(answer),
+    }
+}
+
+/// Reads what a command reads, and makes its answer by as many workers as it asks for.
+fn answer_by<R: Threads + Wait + Sync, I: Inputs, G: Gate + Sync>(
+    rt: &R,
+    alloc: Global,
+    command: Command,
+    inputs: &mut I,
+    gate: &G,
+) -> Result<Answer, OutOfMemory>
+    requires { IsWithinLimits command }
+    ensures served { IfOk result (Served (inputs_of command) (OfCommand command)
+        (reads (I.files inputs.old) (I.faults inputs.old) (I.current inputs.old) (I.taken inputs.old))
+        (reads (I.files inputs.new) (I.faults inputs.new) (I.current inputs.new) (I.taken inputs.new))) }
+    ensures no_usage { IfOk result (λ a. a.status ≢ status.Usage) }
+{
+    let names = command.inputs(alloc)?;
+    answer_over_by(rt, alloc, command, inputs, names.as_slice(), gate)
+}
+
+/// Does what a command asks for, by as many workers as it asks for.
+fn serve_by<R: Threads + Wait + Sync, I: Inputs, K: Sink, G: Gate + Sync>(
+    rt: &R,
+    alloc: Global,
+    command: Command,
+    inputs: &mut I,
+    out: &mut K,
+    gate: &G,
+) -> Status
+    requires { IsWithinLimits command }
+    ensures ended { Ended (inputs_of command) (OfCommand command)
+        (reads (I.files inputs.old) (I.faults inputs.old) (I.current inputs.old) (I.taken inputs.old))
+        (reads (I.files inputs.new) (I.faults inputs.new) (I.current inputs.new) (I.taken inputs.new))
+        (wrote (K.written out.old) (K.faults out.old)) (wrote (K.written out.new) (K.faults out.new)) result }
+    ensures no_usage { result ≢ status.Usage }
+{
+    let answer = answer_by(rt, alloc, command, inputs, gate);
     write_answer(out, &answer)
 }
 
@@ -85,7 +145,7 @@ fn refuse<K: Sink>(alloc: Global, fault: UsageFault, out: &mut K) -> Status
 
 /// Does what the words ask for, and answers the status. The whole text is made before its first byte is written.
 ///
-/// The answer is None for the commands that may start threads, `resolve`, `case` and `dma`: nothing is read or written then.
+/// The answer is None for the commands that may start threads, `resolve`, `case`, `dma` and `ioc`: nothing is read or written then.
 pub fn run_plain<I: Inputs, K: Sink>(
     alloc: Global,
     words: &[String],
@@ -135,12 +195,12 @@ pub fn run_surely(
 
 /// Does all that the program does, and answers the status. The whole text is made before its first byte is written.
 pub fn run<R: Threads + Wait + Sync, I: Inputs, K: Sink, G: Gate + Sync>(
-    _rt: &R,
+    rt: &R,
     alloc: Global,
     words: &[String],
     inputs: &mut I,
     out: &mut K,
-    _gate: &G,
+    gate: &G,
 ) -> u8
     ensures ran { Ran (names_of (command_of (map string_bytes words.now))) (Due (command_of (map string_bytes words.now)))
         (reads (I.files inputs.old) (I.faults inputs.old) (I.current inputs.old) (I.taken inputs.old))
@@ -154,7 +214,7 @@ pub fn run<R: Threads + Wait + Sync, I: Inputs, K: Sink, G: Gate + Sync>(
     ensures usage { IsUsage (command_of (map string_bytes words.now)) result }
 {
     match read_words(alloc, words) {
-        Ok(command) => serve(alloc, command, inputs, out).number(),
+        Ok(command) => serve_by(rt, alloc, command, inputs, out, gate).number(),
         Err(fault) => refuse(alloc, fault, out).number(),
     }
 }

@@ -1,5 +1,5 @@
 -- The choice that is made of the least rank is the least.
-use Rattle.std.proofs.Common.{◌≡◌, ℕ, ◌+◌, ◌*◌, ◌%◌, ◌<◌, List, Bool, Option, Some, subst, sym, ap, ◌∙◌, arith}
+use Rattle.std.proofs.Common.{◌≡◌, ℕ, ◌+◌, ◌*◌, ◌%◌, ◌<◌, List, Bool, Some, subst, sym, ap, ◌∙◌}
 use Rattle.std.proofs.lemmas.Nat.{mod-mul-add}
 use Rattle.choice_rank.specs.Choices.{IsChoice, choices_of, cost_of, index_of, rank_of}
 use Rattle.choice_rank.specs.declared.variable.VarShape.{VarShape}

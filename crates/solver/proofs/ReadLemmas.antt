@@ -1,20 +1,17 @@
 -- What is printed is read again: a refutation, alone or behind a report, and the C text of accesses.
-use Rattle.std.proofs.Common.{◌≡◌, ℕ, ◌<◌, ◌++◌, List, [], Bool, true, false, Option, Some, None, map, subst, sym, ap}
-use Rattle.std.specs.Prelude.{Result, Ok, ◌^◌}
+use Rattle.std.proofs.Common.{◌≡◌, ℕ, ◌++◌, List, [], Bool, true, false, Option, map, subst, sym}
+use Rattle.std.specs.Prelude.{Ok}
 use Rattle.res_base.specs.Lists.{Each}
 use Rattle.res_model.specs.Placed.{IsPlaced}
 use Rattle.res_model.specs.Valid.{IsValid}
 use Rattle.box_rules.specs.Judged.{IsWhole, whole_meaning}
-use Rattle.init_gen.specs.Good.{IsSettable}
 use Rattle.init_gen.specs.Writes.{writes_of}
-use Rattle.init_gen.specs.declared.setting.Setting.{Setting}
 use Rattle.problem.specs.declared.parts.ProblemParts.{ProblemParts}
 use Rattle.reason_lines.proofs.LineLemmas.{are_read}
 use Rattle.refutation.specs.Forms.{FitsBound, form_of}
 use Rattle.refutation.specs.Reading.{proof_of}
 use Rattle.report_lines.proofs.ReportLemmas.{behind_report}
 use Rattle.choice_setup.specs.SetUp.{setting_of}
-use Rattle.report.specs.Reported.{report_text}
 use Rattle.solver.specs.Owed.{IsMore, report_of}
 use Rattle.solver.specs.Refutation.{IsRefutation}
 use Rattle.solver.specs.Spelled.{IsAsked, IsSpelled}

@@ -15,9 +15,12 @@ use choice_rank::ShapeFault;
 use problem::{Part, Problem, build};
 use report::case_text;
 use res_base::{Items, OutOfMemory};
+use res_io::Gate;
 use res_model::{Opts, Project, Tables};
-use serial_search::search;
 use std::alloc::Global;
+use std::sync::Wait;
+use std::thread::Threads;
+use steal_pool::search_by;
 
 /// What is due where a rank is the least: the lines of the case.
 fn found(alloc: Global, number: u64, p: &Problem, rank: u64) -> Result<Answer, OutOfMemory>
@@ -45,32 +48,44 @@ fn told(alloc: Global, number: u64, p: &Problem, best: Option<u64>) -> Result<An
     }
 }
 
-/// What is due where the search has accounted for each choice.
-fn searched(alloc: Global, number: u64, p: Problem) -> Result<Answer, OutOfMemory>
-    requires { p.first ≢ 0 }
+/// What is due where so many workers have accounted for each choice.
+fn searched<R: Threads + Wait + Sync, G: Gate + Sync>(
+    rt: &R,
+    alloc: Global,
+    number: u64,
+    p: Problem,
+    workers: u32,
+    gate: &G,
+) -> Result<Answer, OutOfMemory>
+    requires whole { p.first ≢ 0 }
+    requires workers { (1 ≤ workers) × (workers ≤ 16) }
     ensures { IfOk result (λ a. OfCase number p a) }
 {
     let judge = PinClockJudge::new(alloc, p)?;
-    let outcome = search(alloc, &judge)?;
+    let outcome = search_by(rt, alloc, &judge, workers, gate)?;
     told(alloc, number, judge.problem(), outcome.best)
 }
 
-/// The lines of the least choice of a made case, or that there is none.
-pub fn resolve_case(
+/// The lines of the least choice of a made case, or that there is none. It is searched by 1 to 16 workers at a time.
+pub fn resolve_case<R: Threads + Wait + Sync, G: Gate + Sync>(
+    rt: &R,
     alloc: Global,
     number: u64,
     t: Tables,
     p: Project,
     opts: &Opts,
+    workers: u32,
+    gate: &G,
 ) -> Result<Answer, OutOfMemory>
     requires few { length p.signals ≤ 160 }
     requires placed { Each (IsPlaced t) p.signals }
     requires hertz { p.hse_hz < 2 ^ 32 }
     requires homes { AreHomesDue t p opts.now part.Whole }
+    requires workers { (1 ≤ workers) × (workers ≤ 16) }
     ensures { IfOk result (λ a. OfProblem (problem_of t p opts.now part.Whole) (OfCase number (problem_of t p opts.now part.Whole)) a) }
 {
     match build(alloc, t, p, opts, Part::Whole) {
-        Ok(problem) => searched(alloc, number, problem),
+        Ok(problem) => searched(rt, alloc, number, problem, workers, gate),
         Err(ShapeFault::TooWide { variable }) => too_wide(alloc, variable),
         Err(ShapeFault::Memory) => Err(OutOfMemory),
     }

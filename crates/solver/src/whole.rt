@@ -29,10 +29,13 @@ use problem::{Part, Problem, build};
 use reg_machine::Op;
 use report::report_text;
 use res_base::{Items, OutOfMemory};
+use res_io::Gate;
 use res_model::{Opts, Project, Tables};
 use search_api::Outcome;
-use serial_search::search;
 use std::alloc::Global;
+use std::sync::Wait;
+use std::thread::Threads;
+use steal_pool::search_by;
 
 /// The refutation of all choices below the best one, where it is asked for.
 fn more_of(
@@ -171,32 +174,47 @@ fn told(
     }
 }
 
-fn searched(alloc: Global, p: Problem, proof: bool) -> Result<Answer, OutOfMemory>
+/// What is due where so many workers have accounted for each choice.
+fn searched<R: Threads + Wait + Sync, G: Gate + Sync>(
+    rt: &R,
+    alloc: Global,
+    p: Problem,
+    proof: bool,
+    workers: u32,
+    gate: &G,
+) -> Result<Answer, OutOfMemory>
     requires whole { p.first ≢ 0 }
     requires placed { Each (IsPlaced p.tables) p.signals }
+    requires workers { (1 ≤ workers) × (workers ≤ 16) }
     ensures { IfOk result (λ a. OfWhole proof p a) }
 {
     let judge = PinClockJudge::new(alloc, p)?;
-    let outcome = search(alloc, &judge)?;
+    let outcome = search_by(rt, alloc, &judge, workers, gate)?;
     told(alloc, &judge, &outcome, proof)
 }
 
 /// The report of the least choice of pins and clocks that meets every limit, or the refutation of all choices.
-pub fn resolve(
+///
+/// It is searched by 1 to 16 workers at a time. What is printed is the same whoever was first.
+pub fn resolve<R: Threads + Wait + Sync, G: Gate + Sync>(
+    rt: &R,
     alloc: Global,
     t: Tables,
     p: Project,
     opts: &Opts,
     proof: bool,
+    workers: u32,
+    gate: &G,
 ) -> Result<Answer, OutOfMemory>
     requires few { length p.signals ≤ 160 }
     requires placed { Each (IsPlaced t) p.signals }
     requires hertz { p.hse_hz < 2 ^ 32 }
     requires homes { AreHomesDue t p opts.now part.Whole }
+    requires workers { (1 ≤ workers) × (workers ≤ 16) }
     ensures { IfOk result (λ a. OfProblem (problem_of t p opts.now part.Whole) (OfWhole proof (problem_of t p opts.now part.Whole)) a) }
 {
     match build(alloc, t, p, opts, Part::Whole) {
-        Ok(problem) => searched(alloc, problem, proof),
+        Ok(problem) => searched(rt, alloc, problem, proof, workers, gate),
         Err(ShapeFault::TooWide { variable }) => too_wide(alloc, variable),
         Err(ShapeFault::Memory) => Err(OutOfMemory),
     }

@@ -1,8 +1,8 @@
-use Rattle.std.proofs.Common.{◌≡◌, ◌∙◌, ◌+◌, ◌<◌, List, ℕ, [], ◌∷◌, ◌++◌, take, drop, length, inr, sym, subst, arith}
+use Rattle.std.proofs.Common.{◌∙◌, ◌+◌, List, ℕ, take, drop, inr, subst, arith}
 use Rattle.call_io.specs.Gathered.{IsRead, IsTaken, Unread}
 use Rattle.call_io.specs.Inputs.{Files, Reads, reads}
 use Rattle.call_io.specs.declared.inputs.Taken.{Taken}
-use Rattle.call_io.specs.declared.inputs.Taken.TheVariants.{Whole, Refused}
+use Rattle.call_io.specs.declared.inputs.Taken.TheVariants.{Whole}
 use Rattle.call_io.proofs.Steps.{cut_at, read_more, unread_from}
 use Rattle.call_io.proofs.inputs.gather.Goals as goal
 

@@ -1,5 +1,4 @@
-use Rattle.std.proofs.Common.{◌≡◌, Result, sym, subst}
-use Rattle.answers.specs.declared.answer.Answer.{Answer}
+use Rattle.std.proofs.Common.{sym, subst}
 use Rattle.call_io.specs.Inputs.{wrote}
 use Rattle.call_io.specs.Ran.{IsWritten}
 use Rattle.call_io.proofs.write.write_answer.Goals as goal

@@ -1,4 +1,4 @@
-use Rattle.std.proofs.Common.{◌≡◌, List, ℕ, take, refl, sym, subst}
+use Rattle.std.proofs.Common.{List, ℕ, take, refl, subst}
 use Rattle.std.specs.Io.KnownBytes.{Appends}
 use Rattle.call_io.specs.Ran.{part}
 use Rattle.call_io.proofs.write.write_text.Goals as goal

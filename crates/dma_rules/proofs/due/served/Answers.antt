@@ -1,4 +1,4 @@
-use Rattle.std.proofs.Common.{◌≡◌, ◌∙◌, ℕ, List, Some, ap, refl, subst, sym}
+use Rattle.std.proofs.Common.{◌∙◌, ℕ, List, Some, ap, subst, sym}
 use Rattle.answers.specs.Said.{answered}
 use Rattle.answers.specs.declared.answer.Status.TheVariants.{Done}
 use Rattle.choice_rank.specs.Least.{IsAnswer, IsLeast}

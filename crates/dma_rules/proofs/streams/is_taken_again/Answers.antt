@@ -1,4 +1,4 @@
-use Rattle.std.proofs.Common.{◌≡◌, ◌+◌, Bool, false, true, drop, List, ap, sym, ◌∙◌, arith}
+use Rattle.std.proofs.Common.{◌≡◌, ◌+◌, false, true, drop, ap, sym, ◌∙◌, arith}
 use Rattle.std.specs.List.{list_any}
 use Rattle.dma_model.specs.declared.table.DmaRow.{DmaRow}
 use Rattle.dma_rules.specs.Streams.{is_one_stream, row_of, rows_of}

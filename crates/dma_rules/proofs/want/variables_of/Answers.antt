@@ -1,5 +1,4 @@
 use Rattle.std.proofs.Common.{subst, sym}
-use Rattle.dma_model.specs.declared.table.DmaRequest.{DmaRequest}
 use Rattle.dma_rules.specs.Judged.{HasRows}
 use Rattle.dma_rules.proofs.BoxLemmas.{request_has}
 use Rattle.dma_rules.proofs.want.variables_of.Goals as goal

@@ -1,7 +1,6 @@
-use Rattle.std.proofs.Common.{subst, sym}
 use Rattle.std.proofs.lemmas.Result.{IfOk-weaker}
 use Rattle.resolver.proofs.StatusLemmas.{of_table}
 use Rattle.resolver.proofs.streams.dma.Goals as goal
 
 pub returns-in-Err-clause-status : goal.returns-in-Err-clause-status
-returns-in-Err-clause-status c = IfOk-weaker c.refused_table.result _ _ (λ a said. of_table a _ said.1) c.refused_table.ensures
+returns-in-Err-clause-status g c = IfOk-weaker c.refused_table.result _ _ (λ a said. of_table a _ said.1) c.refused_table.ensures

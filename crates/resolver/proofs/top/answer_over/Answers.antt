@@ -1,4 +1,4 @@
-use Rattle.std.proofs.Common.{◌≡◌, ℕ, List, subst, sym}
+use Rattle.std.proofs.Common.{ℕ, List, subst, sym}
 use Rattle.std.specs.Prelude.{length}
 use Rattle.std.proofs.lemmas.Result.{IfOk-weaker}
 use Rattle.answers.specs.declared.answer.Answer.{Answer}
@@ -33,7 +33,7 @@ returns-in-Files-clause-served g c =
     let clear : IsClear (inputs_of command) after = subst (λ (names : List (List ℕ)). IsClear names after) c.requires.names gathered.1 in
     if_both c.of_bytes.result (OfBytes command c.as_slice.result.now) (λ (a : Answer). IsOfBytes a.status) (Served (inputs_of command) (OfCommand command) before after) c.of_bytes.ensures.due c.of_bytes.ensures.status
     (λ a due status. answered_for (inputs_of command) (OfCommand command) before after read a all clear status.of_inputs
-    (read_whole command read a c.requires.alone (subst (λ (bytes : List (List ℕ)). OfBytes command bytes a) c.as_slice.ensures.value due)))
+    (read_whole command read a (subst (λ (bytes : List (List ℕ)). OfBytes command bytes a) c.as_slice.ensures.value due)))
 
 pub returns-in-Refused-clause-served : goal.returns-in-Refused-clause-served
 returns-in-Refused-clause-served g c =
@@ -42,7 +42,7 @@ returns-in-Refused-clause-served g c =
     let after : Reads = reads (g.I.Inputs.files c.gather.new.inputs) (g.I.Inputs.faults c.gather.new.inputs) (g.I.Inputs.current c.gather.new.inputs) (g.I.Inputs.taken c.gather.new.inputs) in
     let gathered = subst (λ (q : Gathered). IsGathered c.args.names.now before after q) c.in-Refused.is c.in_ok-files.ensures in
     let stopped : Stopped (inputs_of command) before after c.in-Refused.answer = subst (λ (names : List (List ℕ)). Stopped names before after c.in-Refused.answer) c.requires.names gathered in
-    refused (inputs_of command) (OfCommand command) before after c.in-Refused.answer (too_long command c.in-Refused.answer c.requires.alone) stopped
+    refused (inputs_of command) (OfCommand command) before after c.in-Refused.answer (too_long command c.in-Refused.answer) stopped
 
 pub returns-in-Files-clause-no_usage : goal.returns-in-Files-clause-no_usage
 returns-in-Files-clause-no_usage g c = IfOk-weaker c.of_bytes.result _ _ (λ a status. status.no_usage) c.of_bytes.ensures.status

@@ -1,7 +1,7 @@
-use Rattle.std.proofs.Common.{◌≡◌, ℕ, Result, sym, subst}
+use Rattle.std.proofs.Common.{ℕ, Result, sym, subst}
 use Rattle.std.specs.Prelude.{map, string_bytes}
 use Rattle.call_io.specs.Inputs.{Reads, Wrote, reads, wrote}
-use Rattle.call_io.specs.Ran.{Ended, Ran}
+use Rattle.call_io.specs.Ran.{Ended}
 use Rattle.call_io.proofs.ServedLemmas.{complete}
 use Rattle.cmd_words.specs.Words.{command_of}
 use Rattle.cmd_words.specs.declared.command.Command.{Command}
@@ -14,21 +14,21 @@ pub returns-in-Ok-clause-ran : goal.returns-in-Ok-clause-ran
 returns-in-Ok-clause-ran g c =
     let asked : Result Command UsageFault = command_of (map string_bytes c.args.words.now) in
     let before : Reads = reads (g.I.Inputs.files c.args.inputs.now) (g.I.Inputs.faults c.args.inputs.now) (g.I.Inputs.current c.args.inputs.now) (g.I.Inputs.taken c.args.inputs.now) in
-    let after : Reads = reads (g.I.Inputs.files c.serve.new.inputs) (g.I.Inputs.faults c.serve.new.inputs) (g.I.Inputs.current c.serve.new.inputs) (g.I.Inputs.taken c.serve.new.inputs) in
+    let after : Reads = reads (g.I.Inputs.files c.serve_by.new.inputs) (g.I.Inputs.faults c.serve_by.new.inputs) (g.I.Inputs.current c.serve_by.new.inputs) (g.I.Inputs.taken c.serve_by.new.inputs) in
     let out_before : Wrote = wrote (g.K.Sink.written c.args.out.now) (g.K.Sink.faults c.args.out.now) in
-    let out_after : Wrote = wrote (g.K.Sink.written c.serve.new.out) (g.K.Sink.faults c.serve.new.out) in
-    let ended = subst (λ (a : Result Command UsageFault). Ended (names_of a) (Due a) before after out_before out_after c.serve.result) (sym c.in-Ok.ensures.gives) c.serve.ensures.ended in
-    (c.serve.result, c.number.ensures, ended)
+    let out_after : Wrote = wrote (g.K.Sink.written c.serve_by.new.out) (g.K.Sink.faults c.serve_by.new.out) in
+    let ended = subst (λ (a : Result Command UsageFault). Ended (names_of a) (Due a) before after out_before out_after c.serve_by.result) (sym c.in-Ok.ensures.gives) c.serve_by.ensures.ended in
+    (c.serve_by.result, c.number.ensures, ended)
 
 pub returns-in-Ok-clause-complete : goal.returns-in-Ok-clause-complete
 returns-in-Ok-clause-complete g c =
     let asked : Result Command UsageFault = command_of (map string_bytes c.args.words.now) in
     let before : Reads = reads (g.I.Inputs.files c.args.inputs.now) (g.I.Inputs.faults c.args.inputs.now) (g.I.Inputs.current c.args.inputs.now) (g.I.Inputs.taken c.args.inputs.now) in
-    let after : Reads = reads (g.I.Inputs.files c.serve.new.inputs) (g.I.Inputs.faults c.serve.new.inputs) (g.I.Inputs.current c.serve.new.inputs) (g.I.Inputs.taken c.serve.new.inputs) in
+    let after : Reads = reads (g.I.Inputs.files c.serve_by.new.inputs) (g.I.Inputs.faults c.serve_by.new.inputs) (g.I.Inputs.current c.serve_by.new.inputs) (g.I.Inputs.taken c.serve_by.new.inputs) in
     let out_before : Wrote = wrote (g.K.Sink.written c.args.out.now) (g.K.Sink.faults c.args.out.now) in
-    let out_after : Wrote = wrote (g.K.Sink.written c.serve.new.out) (g.K.Sink.faults c.serve.new.out) in
-    let ended = subst (λ (a : Result Command UsageFault). Ended (names_of a) (Due a) before after out_before out_after c.serve.result) (sym c.in-Ok.ensures.gives) c.serve.ensures.ended in
-    λ none. complete (names_of asked) (Due asked) before after out_before out_after c.number.result none (c.serve.result, c.number.ensures, ended)
+    let out_after : Wrote = wrote (g.K.Sink.written c.serve_by.new.out) (g.K.Sink.faults c.serve_by.new.out) in
+    let ended = subst (λ (a : Result Command UsageFault). Ended (names_of a) (Due a) before after out_before out_after c.serve_by.result) (sym c.in-Ok.ensures.gives) c.serve_by.ensures.ended in
+    λ none. complete (names_of asked) (Due asked) before after out_before out_after c.number.result none (c.serve_by.result, c.number.ensures, ended)
 
 pub returns-in-Err-clause-ran : goal.returns-in-Err-clause-ran
 returns-in-Err-clause-ran g c =
@@ -51,7 +51,7 @@ returns-in-Err-clause-complete g c =
 pub returns-in-Ok-clause-usage : goal.returns-in-Ok-clause-usage
 returns-in-Ok-clause-usage g c =
     let asked : Result Command UsageFault = command_of (map string_bytes c.args.words.now) in
-    subst (λ (n : ℕ). IsUsage asked n) (sym c.number.ensures) (no_usage asked c.in-Ok.command c.serve.result c.in-Ok.ensures.gives c.serve.ensures.no_usage)
+    subst (λ (n : ℕ). IsUsage asked n) (sym c.number.ensures) (no_usage asked c.in-Ok.command c.serve_by.result c.in-Ok.ensures.gives c.serve_by.ensures.no_usage)
 
 pub returns-in-Err-clause-usage : goal.returns-in-Err-clause-usage
 returns-in-Err-clause-usage g c =

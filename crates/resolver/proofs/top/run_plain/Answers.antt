@@ -1,8 +1,8 @@
-use Rattle.std.proofs.Common.{◌≡◌, ℕ, Result, sym, subst, ap, ◌∙◌}
+use Rattle.std.proofs.Common.{ℕ, Result, sym, subst, ap, ◌∙◌}
 use Rattle.std.specs.Prelude.{map, string_bytes}
 use Rattle.answers.specs.Said.{number_of}
 use Rattle.call_io.specs.Inputs.{Reads, Wrote, reads, wrote}
-use Rattle.call_io.specs.Ran.{Ended, Ran}
+use Rattle.call_io.specs.Ran.{Ended}
 use Rattle.call_io.proofs.ServedLemmas.{complete}
 use Rattle.cmd_words.specs.Words.{command_of}
 use Rattle.cmd_words.specs.declared.command.Command.{Command}

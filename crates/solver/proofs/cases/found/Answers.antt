@@ -1,4 +1,4 @@
-use Rattle.std.proofs.Common.{◌≡◌, ◌∙◌, ℕ, List, Some, ap, refl, subst, sym}
+use Rattle.std.proofs.Common.{◌∙◌, ℕ, List, Some, ap, subst, sym}
 use Rattle.choice_rank.specs.Least.{IsAnswer, IsLeast}
 use Rattle.problem.specs.Meets.{meets}
 use Rattle.problem.specs.declared.parts.ProblemParts.{ProblemParts}

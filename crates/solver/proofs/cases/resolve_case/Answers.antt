@@ -1,6 +1,5 @@
-use Rattle.std.proofs.Common.{◌≡◌, ◌≢◌, ℕ, List, subst, sym, arith}
+use Rattle.std.proofs.Common.{◌≢◌, subst, sym, arith}
 use Rattle.std.proofs.lemmas.Result.{IfOk-weaker}
-use Rattle.choice_rank.specs.Choices.{IsFirstWide, IsNarrow}
 use Rattle.choice_rank.specs.declared.shape.ShapeFault.{ShapeFault}
 use Rattle.choice_rank.specs.declared.shape.ShapeFault.TheVariants.{TooWide}
 use Rattle.problem.specs.Problem.{IsRefused, problem_of}
@@ -9,18 +8,18 @@ use Rattle.problem.specs.declared.parts.ProblemParts.{ProblemParts}
 use Rattle.solver.specs.Owed.{OfCase, narrow, wide}
 use Rattle.solver.proofs.cases.resolve_case.Goals as goal
 
-pub searched-requires : goal.searched-requires
+pub searched-requires-clause-whole : goal.searched-requires-clause-whole
 unfolding problem_of
-searched-requires c = subst (λ (q : ProblemParts). q.first ≢ 0) (sym c.in-Ok.ensures.problem) (λ e. omega (arith, e))
+searched-requires-clause-whole g c κs within = subst (λ (q : ProblemParts). q.first ≢ 0) (sym c.in-Ok.ensures.problem) (λ e. omega (arith, e))
 
 pub returns-in-Ok : goal.returns-in-Ok
 unfolding problem_of
-returns-in-Ok c =
+returns-in-Ok g c =
     IfOk-weaker c.searched.result _ _ (λ a due. narrow c.in-Ok.ensures.narrow (subst (λ (q : ProblemParts). OfCase c.args.number q a) c.in-Ok.ensures.problem due)) c.searched.ensures
 
 pub returns-in-Err-TooWide : goal.returns-in-Err-TooWide
 unfolding problem_of
-returns-in-Err-TooWide c =
+returns-in-Err-TooWide g c =
     let q = problem_of c.args.t c.args.p c.args.opts.now Whole in
     let refused : IsRefused q.shape (TooWide c.in-Err-TooWide.variable) = subst (λ (f : ShapeFault). IsRefused q.shape f) c.in-Err-TooWide.field-0-is c.in-Err-TooWide.ensures.refused in
     IfOk-weaker c.too_wide.result _ _ (λ a says. wide c.in-Err-TooWide.variable refused.0 refused.1 says) c.too_wide.ensures

@@ -1,4 +1,4 @@
-use Rattle.std.proofs.Common.{◌≡◌, ◌∙◌, ◌++◌, ◌<◌, ◌≤◌, ℕ, List, Ok, Err, length, subst, sym, arith}
+use Rattle.std.proofs.Common.{◌++◌, ◌≤◌, ℕ, length, subst, arith}
 use Rattle.std.specs.Prelude.{codes, decimal, map}
 use Rattle.std.proofs.lemmas.Result.{IfOk-weaker}
 use Rattle.std.proofs.lemmas.List.{length-map}

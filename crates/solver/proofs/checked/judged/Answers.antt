@@ -1,4 +1,4 @@
-use Rattle.std.proofs.Common.{◌≡◌, Some, subst}
+use Rattle.std.proofs.Common.{subst}
 use Rattle.std.proofs.lemmas.Result.{IfOk-weaker}
 use Rattle.box_rules.specs.Judged.{whole_meaning}
 use Rattle.refutation.specs.declared.node.CheckFault.{CheckFault}

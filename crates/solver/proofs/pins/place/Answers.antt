@@ -1,6 +1,5 @@
-use Rattle.std.proofs.Common.{◌≡◌, refl, ℕ, List, subst, sym, arith}
+use Rattle.std.proofs.Common.{◌≡◌, refl, subst, sym}
 use Rattle.std.proofs.lemmas.Result.{IfOk-weaker}
-use Rattle.choice_rank.specs.Choices.{IsFirstWide, IsNarrow}
 use Rattle.choice_rank.specs.declared.shape.ShapeFault.{ShapeFault}
 use Rattle.choice_rank.specs.declared.shape.ShapeFault.TheVariants.{TooWide}
 use Rattle.problem.specs.Problem.{IsRefused, problem_of}

@@ -1,11 +1,10 @@
-use Rattle.std.proofs.Common.{◌≡◌, ◌∙◌, ℕ, Option, ap, subst, sym}
+use Rattle.std.proofs.Common.{◌∙◌, ℕ, Option, ap, subst, sym}
 use Rattle.std.specs.Prelude.{map}
-use Rattle.choice_rank.specs.declared.variable.VarShape.{VarShape}
 use Rattle.refutation.specs.Canonical.{IsCanonicalOf}
 use Rattle.refutation.specs.Forms.{form_of}
 use Rattle.refutation.specs.Spelling.{spelling}
 use Rattle.refutation.specs.Trees.{IsAccepted}
-use Rattle.refutation.proofs.FromLemmas.{covered, owned, sound}
+use Rattle.refutation.proofs.FromLemmas.{owned, sound}
 use Rattle.search_api.specs.Meaning.{Meaning}
 use Rattle.solver.proofs.proof_text.refutation_text.Goals as goal
 

@@ -1,9 +1,7 @@
-use Rattle.std.proofs.Common.{List, subst, sym}
-use Rattle.std.specs.Prelude.{◌≤◌, length}
+use Rattle.std.proofs.Common.{subst, sym}
 use Rattle.res_base.specs.Lists.{Each}
 use Rattle.choice_setup.specs.SetUp.{setting_of}
 use Rattle.reg_machine.specs.Words.{IsOp}
-use Rattle.reg_machine.specs.declared.op.Op.{Op}
 use Rattle.solver.proofs.OpLemmas.{few_setups, are_ops}
 use Rattle.solver.proofs.whole.are_registers.Goals as goal
 

@@ -1,4 +1,4 @@
-use Rattle.std.proofs.Common.{◌≡◌, ℕ, List, Option, None, ap, subst}
+use Rattle.std.proofs.Common.{ℕ, Option, None, ap, subst}
 use Rattle.box_rules.specs.Judged.{whole_meaning}
 use Rattle.solver.specs.Owed.{refuted}
 use Rattle.answers.specs.Said.{answered}

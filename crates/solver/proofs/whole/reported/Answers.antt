@@ -1,4 +1,4 @@
-use Rattle.std.proofs.Common.{◌≡◌, ◌∙◌, ◌++◌, ℕ, List, Option, Some, true, ap, refl, subst, sym}
+use Rattle.std.proofs.Common.{◌≡◌, ◌∙◌, ◌++◌, ℕ, List, Some, true, ap, subst, sym}
 use Rattle.choice_rank.specs.Choices.{rank_of}
 use Rattle.choice_rank.specs.Least.{IsAnswer, IsLeast}
 use Rattle.box_rules.specs.Judged.{whole_meaning}
