@@ -14,7 +14,7 @@ _toarnyk_signals() {
 }
 
 _toarnyk() {
-    local IFS=$' \t\n' commands='pins tree resolve check case can i2s dma code lint view install help'
+    local IFS=$' \t\n' commands='pins tree resolve check case can i2s dma ioc board explain code lint view install help'
     local word=${COMP_WORDS[COMP_CWORD]} before=${COMP_WORDS[COMP_CWORD - 1]} first=1 options='' names=0
     COMPREPLY=()
     [ "${COMP_WORDS[1]}" != --quiet ] || first=2
@@ -30,6 +30,9 @@ _toarnyk() {
         check) options="--vdd --need --hclk --pclk1 --pclk2 --free" ;;
         case) options="--workers" ;;
         dma) options="--workers" ;;
+        ioc) options="--vdd --need --hclk --pclk1 --pclk2 --free --workers" ;;
+        board) options="--vdd --need --hclk --pclk1 --pclk2 --free" ;;
+        explain) options="--vdd --need --hclk --pclk1 --pclk2 --free" ;;
         code) options="--vdd --need --hclk --pclk1 --pclk2 --free --workers -o" ;;
         lint) options="--need --off" ;;
         view) options="--vdd --need --hclk --pclk1 --pclk2 --free --workers" ;;
@@ -43,6 +46,9 @@ _toarnyk() {
         can) names=5 ;;
         i2s) names=3 ;;
         dma) names=2 ;;
+        ioc) names=2 ;;
+        board) names=2 ;;
+        explain) names=2 ;;
         code) names=2 ;;
         lint) names=2 ;;
         view) names=2 ;;
@@ -85,6 +91,12 @@ _toarnyk() {
         i2s:3) : ;;
         dma:1) _toarnyk_files json ;;
         dma:2) : ;;
+        ioc:1) _toarnyk_files json ;;
+        ioc:2) _toarnyk_files ioc ;;
+        board:1) _toarnyk_files json ;;
+        board:2) _toarnyk_files ioc ;;
+        explain:1) _toarnyk_files json ;;
+        explain:2) _toarnyk_files ioc ;;
         code:1) _toarnyk_files json ;;
         code:2) _toarnyk_files ioc ;;
         lint:1) _toarnyk_files json ;;

@@ -9,7 +9,7 @@ _toarnyk_signals() {
 _toarnyk() {
     local -a commands options described
     local first=2 names=0
-    commands=(pins tree resolve check case can i2s dma code lint view install help)
+    commands=(pins tree resolve check case can i2s dma ioc board explain code lint view install help)
     described=(
         'pins:where each signal sits, and what must move when one more is needed'
         'tree:what the projects clock tree runs at, and the first limit that it breaks'
@@ -19,6 +19,9 @@ _toarnyk() {
         'can:the bit timing of a CAN bus, for an exact rate and a sample point'
         'i2s:the PLLI2S for a sample rate, with the error that is left, and the C lines that set it up'
         'dma:a DMA stream for each request, or why they cannot all have one'
+        'ioc:the projects text with the choice of `resolve` as its homes'
+        'board:as `resolve`, for a board that is too wide to be ranked in one number'
+        'explain:what the choice changes; or why nothing fits, and which one thing to give up'
         'code:the C text of `resolve` alone, and on success alone'
         'lint:what the program takes as it stands and a person may not have meant'
         'view:one HTML page with the package, the clock tree and the C text'
@@ -38,6 +41,9 @@ _toarnyk() {
         check) options=(--vdd --need --hclk --pclk1 --pclk2 --free) ;;
         case) options=(--workers) ;;
         dma) options=(--workers) ;;
+        ioc) options=(--vdd --need --hclk --pclk1 --pclk2 --free --workers) ;;
+        board) options=(--vdd --need --hclk --pclk1 --pclk2 --free) ;;
+        explain) options=(--vdd --need --hclk --pclk1 --pclk2 --free) ;;
         code) options=(--vdd --need --hclk --pclk1 --pclk2 --free --workers -o) ;;
         lint) options=(--need --off) ;;
         view) options=(--vdd --need --hclk --pclk1 --pclk2 --free --workers) ;;
@@ -51,6 +57,9 @@ _toarnyk() {
         can) names=5 ;;
         i2s) names=3 ;;
         dma) names=2 ;;
+        ioc) names=2 ;;
+        board) names=2 ;;
+        explain) names=2 ;;
         code) names=2 ;;
         lint) names=2 ;;
         view) names=2 ;;
@@ -93,6 +102,12 @@ _toarnyk() {
         i2s:3) _message number ;;
         dma:1) _files -g '*.json(-.)' ;;
         dma:2) _message number ;;
+        ioc:1) _files -g '*.json(-.)' ;;
+        ioc:2) _files -g '*.ioc(-.)' ;;
+        board:1) _files -g '*.json(-.)' ;;
+        board:2) _files -g '*.ioc(-.)' ;;
+        explain:1) _files -g '*.json(-.)' ;;
+        explain:2) _files -g '*.ioc(-.)' ;;
         code:1) _files -g '*.json(-.)' ;;
         code:2) _files -g '*.ioc(-.)' ;;
         lint:1) _files -g '*.json(-.)' ;;

@@ -109,6 +109,25 @@ COMMANDS = {
             "row where it can. Where two want one stream and there is no way out, a proof of that with status 1.",
             "dma tables/STM32F407VG.json SPI1_RX ADC1 USART1_RX", True),
         Command(
+            "ioc", ("TABLE", "PROJECT"), SHARED + ("--workers",),
+            "the project's text with the choice of `resolve` as its homes",
+            "Prints the project with the pins and dividers of the least choice. Every line that need not change stays byte for "
+            "byte; what a key is missing for stands behind the last line. Where nothing fits, `no choice` with status 1.",
+            "ioc examples/sample.json examples/usart-and-output.ioc --need I2C1_SCL", True),
+        Command(
+            "board", ("TABLE", "PROJECT"), SHARED,
+            "as `resolve`, for a board that is too wide to be ranked in one number",
+            "Pins and clocks are searched one after the other, so the pins' ranks alone must be below 2^63. Prints the cost, then "
+            "what `resolve` prints behind its rank. Where nothing fits, a refutation with status 1.",
+            "board tables/STM32F407IG.json examples/camera-board.ioc", True),
+        Command(
+            "explain", ("TABLE", "PROJECT"), SHARED,
+            "what the choice changes; or why nothing fits, and which one thing to give up",
+            "Where a choice fits, prints its rank and a line for each change. Where none does, the signals that want too few pins "
+            "or the limits that are in the way with their figures, and then each single need, wish, lock or pin without which a "
+            "choice fits, with its cost; the status is 1.",
+            "explain examples/sample.json examples/no-room.ioc --need I2C1_SCL --free pins", True),
+        Command(
             "code", ("TABLE", "PROJECT"), SHARED + ("--workers", "-o"),
             "the C text of `resolve` alone, and on success alone",
             "Where `resolve` refuses, nothing goes to standard output or into the file, its line goes to standard "
@@ -151,7 +170,7 @@ NUMBERS = {
 
 STATUSES = (
     Status(0, "answered", "the placement, the tree, the report, or `accepted: ..`"),
-    Status(1, "nothing fits", "`no choice`; for `resolve`, `can` and `dma` the refutation"),
+    Status(1, "nothing fits", "`no choice`, and for `explain` why; for `resolve`, `board`, `can` and `dma` the refutation"),
     Status(2, "the words are not of the grammar", "`usage: word N`"),
     Status(3, "an input could not be read", "`read failed: NAME`"),
     Status(4, "an input has more than 67,108,864 bytes", "`too long: NAME`"),
@@ -161,7 +180,7 @@ STATUSES = (
     Status(8, "the output could not be written", "a prefix of the text"),
     Status(9, "out of memory", "nothing"),
     Status(10, "the proof is not accepted", "`proof: line N` or `proof: node N`"),
-    Status(11, "not built", "`not built: workers`"),
+    Status(12, "the project cannot be written back", "`ioc: number` or `ioc: line N`"),
     Status(13, "a DMA request that the table does not have, or that is asked for twice", "`dma: request N`"),
     Status(20, "the system did not hand over the words", "nothing"),
 )

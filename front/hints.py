@@ -10,7 +10,7 @@ import faults
 import words_fault
 
 REREAD_SECONDS = 5
-SAYS_A_TEXT = {2, 3, 4, 5, 6, 7, 10, 11, 13}
+SAYS_A_TEXT = {2, 3, 4, 5, 6, 7, 10, 13}
 
 
 def main(argv):
@@ -86,7 +86,6 @@ FIXED = {
     9: ("out of memory (status 9)",
         ("nothing was written",),
         ("leave less open (`--free pins`, `<pin>.Locked=true` in the project), or allow the process more memory",)),
-    11: ("more than one worker is not built yet (status 11)", (), ("leave out `--workers`: the answer is the same",)),
     20: ("the system did not hand over the words (status 20)",
          ("a word that is not UTF-8, such as a file's name, is one cause",), ("rename the file",)),
     137: ("the program was killed (signal 9)", ("nothing can be said of the answer",),

@@ -10,6 +10,8 @@ sys.path.insert(0, os.path.dirname(os.path.abspath(__file__)))
 
 USAGE = 2
 UNWRITTEN = 8
+# what the script answers too where a file of its own is not there
+MISSING = 70
 MODULES = {
     "--hints": "hints",
     "help": "help_text",
@@ -38,7 +40,7 @@ def main(argv):
         if fault.name != MODULES[name]:
             raise
         sys.stderr.write(f"toarnyk: `{name}` is not there: front/{MODULES[name]}.py is missing\n")
-        return 11
+        return MISSING
     return module.main(rest) or 0
 
 

@@ -92,8 +92,8 @@ class Asked(unittest.TestCase):
         self.assertIsNone(hints.block_for(99, ["pins", "a", "b"], None))
 
 
-class Promised(unittest.TestCase):
-    """Commands that the program gets later are named as soon as the list has them, and not before."""
+class Others(unittest.TestCase):
+    """Another command is named where it answers what this one refuses, and only where the list has it."""
 
     def helps(self, status, words, said):
         block = hints.block_for(status, words, said)
@@ -105,14 +105,14 @@ class Promised(unittest.TestCase):
         wide = (7, ["resolve", "sample.json", "empty.ioc"], "too wide: variable 31\n")
         nothing = (1, ["pins", "sample.json", "two-interrupts.ioc"], "no choice\n")
         with a_folder():
-            self.assertNotIn("board`", self.helps(*wide))
-            self.assertNotIn("explain", self.helps(*nothing))
+            self.assertIn("`toarnyk board`", self.helps(*wide))
+            self.assertIn("`toarnyk explain`", self.helps(*nothing))
             kept = dict(commands.COMMANDS)
             try:
                 for name in ("board", "explain"):
-                    commands.COMMANDS[name] = commands.COMMANDS["resolve"]._replace(name=name)
-                self.assertIn("`toarnyk board`", self.helps(*wide))
-                self.assertIn("`toarnyk explain`", self.helps(*nothing))
+                    del commands.COMMANDS[name]
+                self.assertNotIn("board`", self.helps(*wide))
+                self.assertNotIn("explain", self.helps(*nothing))
             finally:
                 commands.COMMANDS.clear()
                 commands.COMMANDS.update(kept)

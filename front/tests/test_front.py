@@ -56,7 +56,7 @@ class Missing(unittest.TestCase):
         kept = toarnyk.MODULES["view"]
         toarnyk.MODULES["view"] = "no_such_module"
         try:
-            self.assertEqual((11, "", "toarnyk: `view` is not there: front/no_such_module.py is missing\n"), said("view", "t", "p"))
+            self.assertEqual((70, "", "toarnyk: `view` is not there: front/no_such_module.py is missing\n"), said("view", "t", "p"))
         finally:
             toarnyk.MODULES["view"] = kept
 
