@@ -152,13 +152,28 @@ def of_request(words, line):
     return blocks.Block(title, None, ("the nearest: " + blocks.listed(near),) if near else ())
 
 
+# ---- 12 ----
+
+
+def of_writing(words, line):
+    """A number that a need would get, or a line that would get too long."""
+    if line == "ioc: number":
+        return blocks.Block("there is no number left for a needed pin", None,
+                            ("the needs are numbered on from the greatest k of the project's `Mcu.Pin<k>`, up to 2^64 - 1",),
+                            ("give that pin of the project a smaller k",))
+    number = line.rpartition(" ")[2]
+    return blocks.Block(f"line {number} of the project would have more than 65,535 bytes", None, (),
+                        ("shorten that line in the project",))
+
+
 # ---- 1 ----
 
 
 def nothing_fits(words, said):
     """Signals that want too few pins, interrupts of one number, or the limits that a refutation names."""
     command = commands.COMMANDS.get(words[0]) if words else None
-    if not command or not command.proved or "--need" not in command.options:
+    # what `explain` prints says why by itself
+    if not command or not command.proved or "--need" not in command.options or command.name == "explain":
         return None
     helps = ("`toarnyk explain` with the same words says why" if commands.has("explain") else "",)
     both = read_both(words)

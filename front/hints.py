@@ -10,7 +10,7 @@ import faults
 import words_fault
 
 REREAD_SECONDS = 5
-SAYS_A_TEXT = {2, 3, 4, 5, 6, 7, 10, 13}
+SAYS_A_TEXT = {2, 3, 4, 5, 6, 7, 10, 12, 13}
 
 
 def main(argv):
@@ -60,7 +60,7 @@ def block_for(status, words, said):
     if status == 1:
         return faults.nothing_fits(words, said or "")
     told = {3: faults.unread, 4: faults.too_long, 5: faults.of_table, 6: faults.of_project, 7: faults.too_wide,
-            10: faults.of_proof, 13: faults.of_request}.get(status)
+            10: faults.of_proof, 12: faults.of_writing, 13: faults.of_request}.get(status)
     block = told(words, line) if told and line else None
     return block or general(status)
 
