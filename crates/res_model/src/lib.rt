@@ -10,7 +10,7 @@ mod table;
 
 pub use clock::{ClockBox, ClockChoice, Facts, Nodes, Range, Src};
 pub use opts::{Free, Opts};
-pub use power::{has_over, scale_limit, speeds_at};
+pub use power::{has_over, scale_limit, scale_of_step, speeds_at};
 pub use project::{Home, Project, Pull, Signal, Speed};
 pub use table::{
     Bounds, Domains, FlashRange, Ip, Mode, Need48, Over, Pin, PinUse, Role, Scale, StepLimits,

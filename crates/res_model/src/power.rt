@@ -1,6 +1,6 @@
 //! The limits at a power step.
-ghost use Rattle.std.specs.Prelude.{◌≡◌};
-ghost use Rattle.res_model.specs.ClockValues.{has_over};
+ghost use Rattle.std.specs.Prelude.{◌≡◌, Some, IsSome};
+ghost use Rattle.res_model.specs.ClockValues.{has_over, scale_of_step};
 ghost use Rattle.res_model.specs.Power.{plain_speeds, over_speeds, scale_limit, speeds_at};
 
 use crate::table::{Bounds, Over, TableParts};
@@ -10,6 +10,17 @@ pub fn has_over(step: u16) -> bool
     ensures { result ≡ has_over step }
 {
     step == 4 || step == 5
+}
+
+/// The scale of a power step.
+pub fn scale_of_step(step: u16) -> u16
+    ensures { result ≡ scale_of_step step }
+{
+    match step {
+        4 => 1,
+        5 => 2,
+        _ => step,
+    }
 }
 
 fn plain_speeds(limits: &Bounds) -> Over
@@ -55,4 +66,15 @@ pub fn scale_limit(t: &TableParts, step: u16) -> Option<u64>
         }
     }
     None
+}
+
+/// The greatest HCLK in hertz at a power step that the table has.
+pub(crate) fn hclk_at(t: &TableParts, step: u16) -> u64
+    requires { IsSome (scale_limit t.now step) }
+    ensures { scale_limit t.now step ≡ Some result }
+{
+    match scale_limit(t, step) {
+        Some(hclk) => hclk,
+        None => unreachable!(),
+    }
 }

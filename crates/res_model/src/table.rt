@@ -1,10 +1,8 @@
-ghost use Rattle.std.specs.Prelude.{◌≡◌, ◌≢◌, ◌<◌, Some, length, slice_get, option_map, IfSome, IfNone, IfOk, IsSome};
-ghost use Rattle.res_base.specs.Lists.{Member};
+ghost use Rattle.std.specs.Prelude.{◌≡◌, ◌≢◌, ◌<◌, Some, length, slice_get, option_map, IfSome, IfNone, IfOk};
 ghost use Rattle.res_model.specs.PinNames.{place};
-ghost use Rattle.res_model.specs.Power.{scale_limit};
 
 use crate::copy::copy_parts;
-use crate::power::{scale_limit, speeds_at};
+use crate::power::{hclk_at, speeds_at};
 use res_base::{Items, OutOfMemory, Text};
 use std::alloc::Global;
 use std::marker::Model;
@@ -185,7 +183,8 @@ impl Model for Tables {
 }
 
 impl Tables {
-    ghost use Rattle.res_base.specs.Lists.{Each, Member};
+    ghost use Rattle.std.specs.Prelude.{IsSome};
+    ghost use Rattle.res_base.specs.Lists.{Each};
     ghost use Rattle.res_model.specs.PinNames.{place};
     ghost use Rattle.res_model.specs.Power.{scale_limit, speeds_at};
     ghost use Rattle.res_model.specs.Valid.{IsValid};
@@ -228,15 +227,15 @@ impl Tables {
         self.parts().version
     }
 
-    /// The limits at a power step of the table.
+    /// The limits at a power step that the table has.
     pub fn limits_at(&self, step: u8) -> StepLimits
-        requires { Member step self.now.clock.vos }
+        requires { IsSome (scale_limit self.now step) }
         ensures hclk { scale_limit self.now step ≡ Some result.hclk }
         ensures sysclk { result.sysclk ≡ (speeds_at self.now step).sysclk }
         ensures pclk1 { result.pclk1 ≡ (speeds_at self.now step).pclk1 }
         ensures pclk2 { result.pclk2 ≡ (speeds_at self.now step).pclk2 }
     {
-        let hclk = hclk_at(self, step);
+        let hclk = hclk_at(self.parts(), u16::from(step));
         let speeds = speeds_at(self.parts(), u16::from(step));
         StepLimits {
             sysclk: speeds.sysclk,
@@ -270,26 +269,6 @@ impl Tables {
         let pins = self.parts().pins.as_slice();
         let pin = &pins[usize::from(pin)];
         (pin.port, pin.number)
-    }
-}
-
-/// That a table has a limit for each of its power steps.
-fn has_limit(t: &Tables, step: u8)
-    requires { Member step t.now.clock.vos }
-    ensures { IsSome (scale_limit t.now step) }
-{
-    t.keeps_rules();
-}
-
-/// The greatest HCLK at a power step of the table.
-fn hclk_at(t: &Tables, step: u8) -> u64
-    requires { Member step t.now.clock.vos }
-    ensures { scale_limit t.now step ≡ Some result }
-{
-    has_limit(t, step);
-    match scale_limit(t.parts(), u16::from(step)) {
-        Some(hclk) => hclk,
-        None => unreachable!(),
     }
 }
 
