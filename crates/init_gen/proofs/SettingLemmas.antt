@@ -366,7 +366,7 @@ module _ (t : TableParts) (valid : IsValid t) (s : Setting) (h : IsSettable s) (
         (r.ppre2 ∙ ppre_back s.clock.ppre2 h.clock.ppre2)
 
     right : IsRight s u
-      right = record { nodes = tree_same; power = r.power; modes = r.modes }
+    right = record { nodes = tree_same; power = r.power; modes = r.modes }
 
   pub setting_sound : Sound (IsLegal t (target_of s)) (IsRight s) (writes_of s) (reset_of t (target_of s))
   setting_sound =
