@@ -1,5 +1,5 @@
 -- The line of the frame at a place.
-use Rattle.std.proofs.Common.{◌≡◌, ◌≢◌, ℕ, zero, suc, ◌<◌, List, [], ◌++◌, Bool, true, false, take, get_or, refl, sym, ap, ◌∙◌, arith}
+use Rattle.std.proofs.Common.{◌≡◌, ◌≢◌, ℕ, zero, suc, ◌<◌, List, [], ◌++◌, Bool, true, false, get_or, refl, sym, ap, ◌∙◌}
 use Rattle.c_print.specs.declared.part.Part.{Part}
 use Rattle.c_print.specs.declared.part.Part.TheVariants as part
 use Rattle.c_print.specs.Text.{part_text, answers_part, frame}

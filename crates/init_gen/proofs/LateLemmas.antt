@@ -32,7 +32,7 @@ use Rattle.reg_machine.specs.Legal.{NodesFit, IsChoiceLegal, IsLegal}
 use Rattle.init_gen.specs.declared.setting.Codes.{Codes}
 use Rattle.init_gen.specs.Writes.{code_word, acr_word, switch_ops, late_ops}
 use Rattle.init_gen.specs.Codes.{IsSmall}
-use Rattle.init_gen.proofs.Fitting.{Rises, CodesFit, TakesReset, HsiFits, TakesNow, OverStays, PllIs, FieldsAre, step_now, rows_of, vco_in_at, vco_at, sys_at}
+use Rattle.init_gen.proofs.Fitting.{Rises, CodesFit, TakesReset, TakesNow, OverStays, PllIs, FieldsAre, step_now, rows_of, vco_in_at, vco_at, sys_at}
 use Rattle.reg_machine.proofs.SoundLemmas.{sound_op, sound_await}
 use Rattle.init_gen.proofs.GpioLemmas.{reset_pin, reset_legal}
 use Rattle.init_gen.proofs.SectionLemmas.{with_ports, section_sound}

@@ -22,7 +22,7 @@ use Rattle.init_gen.specs.PinWrites.{wanted, AreWhole, gpio_section}
 use Rattle.init_gen.specs.Writes.{late_ops}
 use Rattle.init_gen.specs.declared.setting.Codes.{Codes}
 use Rattle.init_gen.specs.declared.setting.Setup.{Setup}
-use Rattle.init_gen.proofs.Fitting.{CodesFit, TakesReset, HsiFits, TakesNow, OverStays, FieldsAre, step_now}
+use Rattle.init_gen.proofs.Fitting.{CodesFit, TakesReset, HsiFits, TakesNow, FieldsAre, step_now}
 use Rattle.init_gen.proofs.LateLemmas.{at, flags_all, flags_to, first_row, legal_hsi, late_sound, Stays, same_if, below, not_below, comes_to, none_comes, off_stays, on_stays}
 
 -- the words of PWR_CR for scale 1 and for scale 2: VOS alone, with ODEN, and with ODSWEN too

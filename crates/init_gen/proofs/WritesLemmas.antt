@@ -1,6 +1,5 @@
 -- The scale, the HSE, the PLL and over-drive in front of the rest, for each use of them; and the whole list.
 use Rattle.std.proofs.Common.{◌≡◌, ℕ, ◌+◌, ◌*◌, ◌-◌, ◌/◌, ◌%◌, ◌^◌, ◌<◌, ◌≤◌, List, [], ◌∷◌, get_or, Some, None, Bool, true, false, ◌&&◌, ◌||◌, cond, eqb, Option, ◌⊎◌, inl, inr, refl, sym, subst, ap, ◌∙◌, arith}
-use Rattle.std.proofs.lemmas.Bool.{eqb-true}
 use Rattle.std.proofs.lemmas.Bool.Decides.{eqb_tells}
 use Rattle.res_base.specs.Lists.{Member}
 use Rattle.reg_map.specs.declared.register.Reg.TheVariants as reg
@@ -25,16 +24,16 @@ use Rattle.res_model.specs.ClockValues.{has_over, known_steps, scale_of_step}
 use Rattle.res_model.specs.declared.table.Mode.{Mode}
 use Rattle.res_model.specs.declared.table.TableParts.{TableParts}
 use Rattle.reg_machine.specs.declared.state.Target.{Target}
-use Rattle.reg_machine.specs.Power.{vos_mask, scale_of, step_from}
+use Rattle.reg_machine.specs.Power.{vos_mask, step_from}
 use Rattle.reg_machine.specs.Tree.{m_of, n_of, p_of, src_of}
 use Rattle.reg_machine.specs.Legal.{IsLegal}
-use Rattle.init_gen.specs.Writes.{scale_ops, vos_ops, hse_ops, pll_ops, over_ops, late_ops, pll_word}
+use Rattle.init_gen.specs.Writes.{vos_ops, hse_ops, pll_ops, over_ops, late_ops, pll_word}
 use Rattle.init_gen.specs.Codes.{IsSmall, vos_word}
 use Rattle.init_gen.proofs.Fitting.{CodesFit, TakesReset, TakesNow, OverStays, Suits, FieldsAre, has_hse, is_on, step_now, osc_of, vco_in_at, vco_at, sys_at}
 use Rattle.reg_machine.proofs.SoundLemmas.{sound_op, sound_await}
 use Rattle.init_gen.proofs.ClockLemmas.{m_is, n_is, pcode_is, psrc_is, q_is, whole_is}
 use Rattle.init_gen.proofs.LateLemmas.{at, flags_to, first_row, legal_hsi, late_sound, Stays, same_if, below, not_below, comes_to, none_comes, off_stays}
-use Rattle.init_gen.proofs.OverLemmas.{word0, takes_now, now0, over_sound}
+use Rattle.init_gen.proofs.OverLemmas.{word0, takes_now, over_sound}
 
 -- RCC_CR with the PLL off, and on
 cr_of : Oscillator → ℕ

@@ -14,7 +14,7 @@ use Rattle.res_model.specs.Valid.{IsText, ArePins, AreSignals, AreIps, AreBounds
 use Rattle.mcu_tables.proofs.TableLaws.{bound, reads, same_ok, need_keeps, none_passes, neither, text_keeps, number_keeps, Kept, list_keeps}
 use Rattle.mcu_tables.proofs.PinLaws.{AreKept, pins_keep}
 use Rattle.mcu_tables.proofs.SignalLaws.{signals_keep, ips_keep}
-use Rattle.mcu_tables.proofs.ClockLaws.{DifferTexts, distinct_keeps, clock_keeps, AreRead, AreReadSpeeds, HasRead, AreAllRead, all_limits_keep}
+use Rattle.mcu_tables.proofs.ClockLaws.{DifferTexts, distinct_keeps, clock_keeps, AreRead, AreReadSpeeds, HasRead, all_limits_keep}
 use Rattle.mcu_tables.proofs.FlashLaws.{IsMax, AreReadScales, scales_keep, IsReadRange, IsBelow, flash_keeps, defaults_keep}
 use Rattle.serde_json.specs.Data.{Data}
 use Rattle.serde_json.specs.Find.{get}

@@ -1,5 +1,4 @@
-use Rattle.std.proofs.Common.{rules, ◌≡◌, ℕ, List, Bool, true, false, refl}
-use Rattle.c_print.specs.Fronts.{IsFrameLine}
+use Rattle.std.proofs.Common.{rules, true, false}
 use Rattle.c_print.proofs.FrameLemmas.{NoFrameLine, goes_on_before, no_answers}
 use Rattle.c_print.proofs.front.answers_at.Goals as goal
 
