@@ -1,5 +1,5 @@
 -- An access whose timeout the third line names.
-use Rattle.std.proofs.Common.{◌≡◌, ℕ, ◌+◌, List, [], ◌∷◌, ◌++◌, Bool, true, false, ◌||◌, refl, sym, ap, ◌∙◌}
+use Rattle.std.proofs.Common.{◌≡◌, ℕ, ◌+◌, List, [], ◌∷◌, ◌++◌, Bool, true, false, ◌||◌, not, refl, sym, ap, ◌∙◌}
 use Rattle.reg_machine.specs.declared.op.Op.{Op}
 use Rattle.c_print.specs.Text.{op_line, is_over_op, awaits_over}
 use Rattle.c_print.specs.Reading.{FitsLine}
@@ -44,10 +44,11 @@ all_named over ops o all f w = one_more ops (all w)
     one_more (p ∷ os) h = neither (is_over_op p) (awaits_over (os ++ o ∷ [])) (left (is_over_op p) (awaits_over os) h) (one_more os (right (is_over_op p) (awaits_over os) h))
 
 -- the third line is that which the ops need
-pub as_named : (over : Bool) (ops : List Op) → (over ≡ false → awaits_over ops ≡ false) → ((over ≡ true) × (awaits_over ops ≡ false) → ⊥) → awaits_over ops ≡ over
-as_named false ops named out = named refl
-as_named true ops named out = cases (awaits_over ops) (λ n. out (refl, n))
-  where
-    cases : (b : Bool) → (b ≡ false → ⊥) → b ≡ true
-    cases true out = refl
-    cases false out = absurd (out refl)
+pub as_named : (over awaits : Bool) → (over ≡ false → awaits ≡ false) → (not over || awaits) ≡ true → awaits ≡ over
+as_named false awaits named due = named refl
+as_named true awaits named due = due
+
+-- or it names what no op awaits
+pub not_due : (over awaits : Bool) → (not over || awaits) ≡ false → (over ≡ true) × (awaits ≡ false)
+not_due true awaits out = (refl, out)
+not_due false awaits out = absurd cc

@@ -1,4 +1,4 @@
-ghost use Rattle.std.specs.Prelude.{◌≡◌, ◌+◌, ◌<◌, ◌≤◌, ◌^◌, ◌++◌, map, length, IfOk, IfErr};
+ghost use Rattle.std.specs.Prelude.{◌≡◌, ◌+◌, ◌<◌, ◌≤◌, ◌^◌, ◌++◌, ◌||◌, not, map, length, IfOk, IfErr};
 ghost use Rattle.std.specs.List.{concat};
 ghost use Rattle.c_print.specs.Text.{op_line, awaits_over, frame};
 ghost use Rattle.c_print.specs.Reading.{FitsLine, Reads, Refuses};
@@ -24,7 +24,7 @@ pub fn read_c(alloc: Global, text: &[u8]) -> Result<Vec<Op>, CFault>
     let (over, rest) = after_frame(text)?;
     let (ops, rest) = ops_in(alloc, over, rest)?;
     let line = ops.len() as u32 + 7;
-    if over && !awaits_over(ops.as_slice()) {
+    if !are_due(over, ops.as_slice()) {
         return Err(CFault::Line { line });
     }
     let Some(rest) = after(Part::Return, rest) else {
@@ -38,6 +38,13 @@ pub fn read_c(alloc: Global, text: &[u8]) -> Result<Vec<Op>, CFault>
     } else {
         Err(CFault::Line { line: line + 2 })
     }
+}
+
+/// Whether the names of the third line are due: those of over-drive only where an access awaits it.
+fn are_due(over: bool, ops: &[Op]) -> bool
+    ensures { result ≡ (not over || awaits_over ops.now) }
+{
+    !over || awaits_over(ops)
 }
 
 /// What follows the six lines before those of the accesses, and whether the third names the timeouts of over-drive.
