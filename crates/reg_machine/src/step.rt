@@ -4,7 +4,7 @@ ghost use Rattle.reg_map.specs.Registers.{IsRegister};
 ghost use Rattle.reg_machine.specs.Words.{word_of, number, slot, IsStored, IsOp};
 ghost use Rattle.reg_machine.specs.Rules.{bars};
 ghost use Rattle.reg_machine.specs.Awaits.{awaits_ready, awaits_switch, awaits_latency, awaits_over, is_lawful};
-ghost use Rattle.reg_machine.specs.Step.{flags, stored, noted, went, store, poll, is_acr, act, step_of};
+ghost use Rattle.reg_machine.specs.Step.{over_after, switched_after, flags, stored, noted, went, store, poll, is_acr, act, step_of};
 
 use crate::op::{Answer, Op, Rule, Stepped, Timeout};
 use crate::rules::{HSEON, ODEN, ODSWEN, PLLON, barred, bit};
@@ -50,6 +50,18 @@ pub fn step(s: &mut State, op: &Op, a: Answer) -> Stepped
     }
 }
 
+fn over_ready(s: &State, a: Answer) -> bool
+    ensures { result ≡ over_after a s.now }
+{
+    s.over_ready || (a.over && bit(ODEN, s.pwr_cr) && bit(PLLON, s.cr))
+}
+
+fn over_switched(s: &State, a: Answer) -> bool
+    ensures { result ≡ switched_after a s.now }
+{
+    s.over_switched || (a.over_switch && bit(ODSWEN, s.pwr_cr) && over_ready(s, a))
+}
+
 pub fn with_flags(s: &State, a: Answer) -> State
     requires { IsStored s.now }
     ensures new { result ≡ flags a s.now }
@@ -61,14 +73,13 @@ pub fn with_flags(s: &State, a: Answer) -> State
     } else {
         true
     };
-    let over_ready = s.over_ready || (a.over && bit(ODEN, s.pwr_cr) && bit(PLLON, s.cr));
     State {
         hse_ready,
         pll_ready: s.pll_ready || (a.pll && bit(PLLON, s.cr) && source_ready),
         latency: if a.latency { s.acr % 8 } else { s.latency },
         source: if a.switch { s.cfgr % 4 } else { s.source },
-        over_ready,
-        over_switched: s.over_switched || (a.over_switch && bit(ODSWEN, s.pwr_cr) && over_ready),
+        over_ready: over_ready(s, a),
+        over_switched: over_switched(s, a),
         ..*s
     }
 }
