@@ -79,7 +79,7 @@ def written(file, text):
     """Writes the file and its header, each whole or not at all."""
     try:
         replace(file, text)
-        replace(file[:-2] + ".h", header(file).encode())
+        replace(file[:-2] + ".h", header(file, text).encode())
     except OSError as fault:
         sys.stderr.write(f"toarnyk: code: {blocks.harmless(file)} could not be written: {fault.strerror}\n")
         return UNWRITTEN
@@ -105,11 +105,18 @@ def umask():
     return mask
 
 
-def header(file):
+def header(file, text):
     """A header for the one function. Its names differ from those of the C text, so that both may be in one file."""
+    over = OVER if OVER_TIMEOUT in text else ""
     guard = re.sub(r"\W", "_", os.path.basename(file)[:-2]).upper() + "_H"
-    return HEADER.replace("GUARD", guard if not guard[0].isdigit() else "BOARD_" + guard)
+    return HEADER.replace("OVER", over).replace("GUARD", guard if not guard[0].isdigit() else "BOARD_" + guard)
 
+
+# what the text returns beside, where it sets up over-drive
+OVER_TIMEOUT = b"OVER_TIMEOUT"
+OVER = """,
+    BOARD_INIT_OVER_TIMEOUT = 5,
+    BOARD_INIT_OVER_SWITCH_TIMEOUT = 6"""
 
 HEADER = """#ifndef GUARD
 #define GUARD
@@ -124,7 +131,7 @@ enum board_init_result {
     BOARD_INIT_HSE_TIMEOUT = 1,
     BOARD_INIT_PLL_TIMEOUT = 2,
     BOARD_INIT_LATENCY_TIMEOUT = 3,
-    BOARD_INIT_SWITCH_TIMEOUT = 4
+    BOARD_INIT_SWITCH_TIMEOUT = 4OVER
 };
 
 /* Sets up clocks and pins. Call it once, first thing after reset. */

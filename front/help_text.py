@@ -38,7 +38,7 @@ def rows(pairs, indent="  "):
 def overview():
     proved = [command for command in commands.COMMANDS.values() if command.proved]
     around = [command for command in commands.COMMANDS.values() if not command.proved]
-    lines = ["Pins and clock tree of STM32F405 and STM32F407: which fit, and with the fewest changes.", "",
+    lines = ["Pins and clock tree of STM32F405, F407, F42x and F43x: which fit, and with the fewest changes.", "",
              "usage: toarnyk [--quiet] COMMAND TABLE PROJECT [OPTION]..", "",
              "TABLE is a part's table (JSON; tables/ has some), PROJECT what CubeMX writes (.ioc).", "",
              "Answered by the proved program:"]

@@ -17,4 +17,5 @@ MEANING = {
     14: "the wish for HCLK",
     15: "the wish for PCLK1",
     16: "the wish for PCLK2",
+    17: "over-drive is on, and the PLL is not in use",
 }

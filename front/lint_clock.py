@@ -2,7 +2,8 @@
 from fractions import Fraction
 
 HSI = 16_000_000
-MOST_PLL_OUTPUT = 168_000_000
+# by the table's version: F405 and F407, and F42x and F43x
+MOST_PLL_OUTPUT = {1: (168_000_000, "DS8626"), 2: (180_000_000, "DS9405")}
 LEAST_PLL_OUTPUT = 24_000_000
 USERS_OF_48_MHZ = {"USB_OTG_FS", "USB_OTG_HS_FS"}
 
@@ -14,7 +15,7 @@ def is_pll_used(tree, table, ips):
 
 
 def pll_output(tree, table, ips):
-    """A PLL output divided by P that the data sheet does not have (DS8626, main PLL characteristics).
+    """A PLL output divided by P that the data sheet does not have (main PLL characteristics).
 
     Where SYSCLK comes from it, the limit of SYSCLK forbids what is too fast.
     """
@@ -22,10 +23,11 @@ def pll_output(tree, table, ips):
         return None
     source = tree.get("hse", 0) if tree.get("psrc") == "HSE" else HSI
     output = Fraction(source * tree["n"], tree["m"] * tree["p"])
-    if LEAST_PLL_OUTPUT <= output <= MOST_PLL_OUTPUT or (output > MOST_PLL_OUTPUT and tree["src"] == "PLL"):
+    most, sheet = MOST_PLL_OUTPUT.get(table.data.get("version"), MOST_PLL_OUTPUT[1])
+    if LEAST_PLL_OUTPUT <= output <= most or (output > most and tree["src"] == "PLL"):
         return None
-    where = "above 168 MHz" if output > MOST_PLL_OUTPUT else "below 24 MHz"
-    return f"the PLL's output by P is {int(output):,} Hz, {where}: DS8626 has 24 to 168 MHz, and no limit here forbids it"
+    where = f"above {most // 1_000_000} MHz" if output > most else "below 24 MHz"
+    return f"the PLL's output by P is {int(output):,} Hz, {where}: {sheet} has 24 to {most // 1_000_000} MHz, and no limit here forbids it"
 
 
 def usb_from_hsi(tree, ips):

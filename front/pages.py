@@ -44,7 +44,7 @@ def man_page():
     lines = [
         '.TH TOARNYK 1 "2026-12-01" "toarnyk" "User Commands"',
         ".SH NAME",
-        "toarnyk \\- a resolver for pins and clock tree of STM32F405 and STM32F407",
+        "toarnyk \\- a resolver for pins and clock tree of STM32F405, F407, F42x and F43x",
         ".SH SYNOPSIS",
     ]
     usages = [f".B toarnyk {roff(commands.usage_line(command))}" for command in commands.COMMANDS.values()]

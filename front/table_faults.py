@@ -8,7 +8,7 @@ import table as tables
 
 # what docs/FORMATS.md says of a path, by the path's pattern
 FORMS = (
-    (r"/version", "1"),
+    (r"/version", "1 or 2"),
     (r"/names", "a list of the part's names, at least one"),
     (r"/package", "a text without blanks, of 1 to 64 characters"),
     (r"/pins(/\d+)?", "a list of names that begin with the port's letter and number, such as PA0-WKUP, none twice"),
@@ -24,7 +24,7 @@ FORMS = (
     (r"/clock/p(/\d+)?", "an ascending list within 2, 4, 6, 8"),
     (r"/clock/hpre(/\d+)?", "an ascending list within 1, 2, 4, 8, 16, 64, 128, 256, 512, with 1 in it"),
     (r"/clock/ppre[12](/\d+)?", "an ascending list within 1, 2, 4, 8, 16, with 1 in it"),
-    (r"/clock/vos(/\d+)?", "an ascending list within 1, 2, with 1 in it"),
+    (r"/clock/vos(/\d+)?", "an ascending list within 1, 2, or in version 2 within 1 to 5, with 1 in it, and 5 only with 2"),
     (r"/limits/crystal", "a pair of hertz within 4,000,000 to 26,000,000"),
     (r"/limits/bypass", "a pair of hertz within 1,000,000 to 50,000,000"),
     (r"/limits/vco_in", "a pair of hertz within 1,000,000 to 2,000,000"),
@@ -32,7 +32,13 @@ FORMS = (
     (r"/limits/sysclk", "a number of hertz up to 168,000,000"),
     (r"/limits/pclk1", "a number of hertz up to 42,000,000"),
     (r"/limits/pclk2", "a number of hertz up to 84,000,000"),
-    (r"/scales", "one object for each scale of /clock/vos"),
+    (r"/limits/over", "an object of sysclk, pclk1 and pclk2, in version 2"),
+    (r"/limits/over/sysclk", "a number of hertz up to 180,000,000"),
+    (r"/limits/over/pclk1", "a number of hertz up to 45,000,000"),
+    (r"/limits/over/pclk2", "a number of hertz up to 90,000,000"),
+    (r"/scales", "one object for each step of /clock/vos, in its order"),
+    (r"/scales/\d+/vos", "the step of /clock/vos at this place"),
+    (r"/scales/\d+/max", "a number of hertz up to 168,000,000, or 180,000,000 at steps 4 and 5"),
     (r"/flash/\d+/rows(/\d+)?", "a strictly ascending list of hertz"),
     (r"/.*/name", "a text without blanks, of 1 to 64 characters, none twice"),
 )

@@ -9,7 +9,7 @@ HERE = os.path.dirname(os.path.abspath(__file__))
 
 def main(argv):
     program = os.environ.get("TOARNYK_PROGRAM", "")
-    lines = ["toarnyk, a resolver for pins and clock tree of STM32F405 and STM32F407"]
+    lines = ["toarnyk, a resolver for pins and clock tree of STM32F405, F407, F42x and F43x"]
     lines += proved(program)
     lines += [f"table {os.path.basename(file)[:-5]}: {sum_of(file)[:16]}" for file in tables()]
     sys.stdout.write("\n".join(lines) + "\n")

@@ -39,6 +39,16 @@ class Clock:
     nodes: dict
     vdd: int
     wait: str
+    over: bool = False
+
+    @property
+    def step(self):
+        """The power step, as a table counts it."""
+        return self.vos + 3 if self.over else self.vos
+
+    @property
+    def scale(self):
+        return f"{self.vos} with over-drive" if self.over else str(self.vos)
 
 
 @dataclass(frozen=True)
@@ -108,7 +118,7 @@ def clock_of(lines):
         pll=None if pll == ["off"] else (pll[0], *map(number, pll[1:])),
         hse=None if hse == ["off"] else (hse[0], number(hse[1])),
         ahb=number(dividers[0]), apb1=number(dividers[2]), apb2=number(dividers[4]), vos=number(dividers[6]),
-        nodes=nodes, vdd=number(supply[0]), wait=supply[2],
+        nodes=nodes, vdd=number(supply[0]), wait=supply[2], over=dividers[7:] == ["over"],
     )
 
 

@@ -70,14 +70,15 @@ def waits_of(clock):
 
 
 def old_flash(clock, old):
-    return waits_of(old) + ("" if old.vos == clock.vos else f", scale {old.vos}")
+    return waits_of(old) + ("" if old.step == clock.step else f", scale {old.scale}")
 
 
-def flash_cell(clock, old):
+def flash_cell(clock, old, broken):
     waits = waits_of(clock)
-    was = "" if (old.wait, old.vdd, old.vos) == (clock.wait, clock.vdd, clock.vos) else old_flash(clock, old)
-    state = "broken" if clock.wait == "none" else "changed" if was else "same"
-    return Cell("FLASH", waits, f"scale {clock.vos}", old.vos != clock.vos, was, f"supply {clock.vdd} mV", "", None, state,
+    was = "" if (old.wait, old.vdd, old.step) == (clock.wait, clock.vdd, clock.step) else old_flash(clock, old)
+    is_broken = clock.wait == "none" or NODE_OF_LIMIT.get(broken) == "FLASH"
+    state = "broken" if is_broken else "changed" if was else "same"
+    return Cell("FLASH", waits, f"scale {clock.scale}", old.step != clock.step, was, f"supply {clock.vdd} mV", "", None, state,
                 "wait states of the flash; the voltage scale of the regulator")
 
 
@@ -86,7 +87,7 @@ def cells_of(table, clock, old, ips, wishes, broken):
     bounds = bounds_of(table, clock, ips, wishes)
     names = [name for name in TITLES if name != "FLASH"]
     cells = {name: cell_of(name, clock, old, bounds.get(name), broken) for name in names}
-    cells["FLASH"] = flash_cell(clock, old)
+    cells["FLASH"] = flash_cell(clock, old, broken)
     return cells
 
 
@@ -95,7 +96,7 @@ def changes_of(clock, old):
     def settings(c):
         named = dict(zip(("PLL source", "PLLM", "PLLN", "PLLP", "PLLQ"), c.pll or ("off",) + ("",) * 4))
         return {"SYSCLK source": c.source, **named, "AHB divider": c.ahb, "APB1 divider": c.apb1, "APB2 divider": c.apb2,
-                "voltage scale": c.vos}
+                "voltage scale": c.scale if c.over else c.vos}
     before, after = settings(old), settings(clock)
     return [(name, before[name], after[name]) for name in after if before[name] != after[name] and after[name] != ""]
 

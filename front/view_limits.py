@@ -22,7 +22,7 @@ LIMITS = {
     16: "PCLK2 is not what was asked for",
 }
 NODE_OF_LIMIT = {3: "HSE", 4: "VCO_IN", 5: "VCO", 6: "SYSCLK", 7: "HCLK", 8: "PCLK1", 9: "PCLK2", 10: "CLK48",
-                 11: "CLK48", 12: "HCLK", 13: "HCLK", 14: "HCLK", 15: "PCLK1", 16: "PCLK2"}
+                 11: "CLK48", 12: "HCLK", 13: "HCLK", 14: "HCLK", 15: "PCLK1", 16: "PCLK2", 17: "FLASH"}
 MHZ_48 = 48_000_000
 
 
@@ -70,11 +70,11 @@ def flash_most(table, vdd):
 
 
 def hclk_bound(table, clock, ips, wish):
-    scale = next((s["max"] for s in table.raw["scales"] if s["vos"] == clock.vos), None)
+    scale = next((s["max"] for s in table.raw["scales"] if s["vos"] == clock.step), None)
     flash = flash_most(table, clock.vdd)
     floor = max([ip.get("floor", 0) for ip in ips], default=0)
     most = min(value for value in (scale, flash or 0) if value is not None)
-    words = [f"voltage scale {clock.vos}: at most {megahertz(scale)}" if scale else "",
+    words = [f"voltage scale {clock.scale}: at most {megahertz(scale)}" if scale else "",
              f"flash at {clock.vdd} mV: at most {megahertz(flash)}" if flash else f"flash: no row for {clock.vdd} mV"]
     words += [f"{ip['name']}: at least {megahertz(ip['floor'])}" for ip in ips if ip.get("floor")]
     words += [f"asked for: {hertz(wish)}"] if wish else []
@@ -90,21 +90,27 @@ def clk48_bound(ips):
     return at_most(MHZ_48, f"for {', '.join(most)}:") if most else None
 
 
-def bus_bound(table, key, wish):
-    bound = at_most(table.raw["limits"][key], "the bus:")
+def speeds_of(table, clock):
+    """The limits of SYSCLK, PCLK1 and PCLK2: those with over-drive have a place of their own."""
+    limits = table.raw["limits"]
+    return limits["over"] if clock.over else limits
+
+
+def bus_bound(speeds, key, wish):
+    bound = at_most(speeds[key], "the bus:")
     return bound if wish is None else Bound(None, bound.most, bound.short, f"{bound.words}; asked for: {hertz(wish)}")
 
 
 def bounds_of(table, clock, ips, wishes):
     """What each node must keep; a node without a limit of its own is missing."""
-    limits = table.raw["limits"]
+    limits, speeds = table.raw["limits"], speeds_of(table, clock)
     bounds = {
         "VCO_IN": between(limits["vco_in"], "the PLL's input:"),
         "VCO": between(limits["vco"], "the VCO:"),
-        "SYSCLK": at_most(limits["sysclk"], "the part:"),
+        "SYSCLK": at_most(speeds["sysclk"], "the part:"),
         "HCLK": hclk_bound(table, clock, ips, wishes.get("--hclk")),
-        "PCLK1": bus_bound(table, "pclk1", wishes.get("--pclk1")),
-        "PCLK2": bus_bound(table, "pclk2", wishes.get("--pclk2")),
+        "PCLK1": bus_bound(speeds, "pclk1", wishes.get("--pclk1")),
+        "PCLK2": bus_bound(speeds, "pclk2", wishes.get("--pclk2")),
         "CLK48": clk48_bound(ips),
     }
     if clock.hse:

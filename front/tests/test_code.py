@@ -45,6 +45,12 @@ class Code(unittest.TestCase):
         self.assertIn("\nint board_init(void);\n", (self.folder / "board_init.h").read_text())
         self.assertEqual(["board_init.c", "board_init.h"], sorted(os.listdir(self.folder)))
 
+    def test_the_header_has_the_timeouts_of_over_drive_where_the_text_has_them(self):
+        plain = code_text.header("b.c", C_TEXT.encode())
+        self.assertIn("    BOARD_INIT_SWITCH_TIMEOUT = 4\n};", plain)
+        over = code_text.header("b.c", C_TEXT.replace("{", "enum { OVER_TIMEOUT };\n{").encode())
+        self.assertIn("    BOARD_INIT_SWITCH_TIMEOUT = 4,\n    BOARD_INIT_OVER_TIMEOUT = 5,\n    BOARD_INIT_OVER_SWITCH_TIMEOUT = 6\n};", over)
+
     def test_no_file_on_a_refusal(self):
         done = run(["t", "p", "-o", "board_init.c"], "proof 1\nbound none\nL 13\nend\n", 1, self.folder)
         self.assertEqual((1, "", []), (done.returncode, done.stdout, os.listdir(self.folder)))

@@ -75,6 +75,11 @@ class Answers(unittest.TestCase):
         self.assertEqual((clock.pll, clock.hse, clock.nodes["VCO"], broken), (None, None, None, None))
         self.assertEqual(read_tree(cases.TREE)[1], 10)
 
+    def test_over_drive_is_a_power_step_of_its_own(self):
+        self.assertEqual(read_tree(cases.TREE)[0].step, 1)
+        clock = read_tree(cases.CLOCK.replace("vos 1", "vos 1 over") + "limits met\n")[0]
+        self.assertEqual((clock.step, clock.scale), (4, "1 with over-drive"))
+
     def test_refutation(self):
         nodes = read_refutation("proof 1\nbound none\nS 11 0\nL 13\nS 10 1\nH pins 10 11\nR\nend\n")
         self.assertEqual([(n.kind, n.path) for n in nodes], [

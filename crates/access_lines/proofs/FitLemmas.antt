@@ -20,7 +20,7 @@ use Rattle.c_print.specs.Reading.{FitsLine}
 use Rattle.init_gen.specs.Codes.{codes_of, IsSmall}
 use Rattle.init_gen.specs.Good.{IsSettable}
 use Rattle.init_gen.specs.PinWrites.{pull_code, speed_code, field_op, pull_op, speed_op, type_op, af_op, mode_op, ops_in, is_left, gpio_ops, ports, gpio_section, IsNarrow, IsGiven, AreWhole}
-use Rattle.init_gen.specs.Writes.{acr_word, vos_ops, hse_ops, pll_ops, switch_ops, late_ops, writes_of}
+use Rattle.init_gen.specs.Writes.{acr_word, scale_ops, vos_ops, hse_ops, pll_ops, over_ops, switch_ops, late_ops, writes_of}
 use Rattle.init_gen.specs.declared.setting.Codes.{Codes}
 use Rattle.init_gen.specs.declared.setting.Oscillator.{Oscillator}
 use Rattle.init_gen.specs.declared.setting.Oscillator.TheVariants as oscillator
@@ -110,9 +110,20 @@ of_section pins h =
     (enables, (tt, of_pins 0 pins (omega (arith, few)) (given pins h.setup)))
 
 -- ---- the accesses of the clocks
-of_vos : (b : Bool) (rest : List Op) → Each FitsLine rest → Each FitsLine (vos_ops b rest)
-of_vos true rest h = ((tt, omega arith, omega arith), (tt, ((tt, omega arith, omega arith), h)))
-of_vos false rest h = h
+of_scale : (c : Codes) (rest : List Op) → IsSmall c → Each FitsLine rest → Each FitsLine (scale_ops c rest)
+of_scale c rest s h = either (c.scale == 1) rest (op.Modify reg.PwrCr c.vos_clear c.vos_set ∷ rest) h ((tt, omega (arith, s.vos_clear), omega (arith, s.vos_set)), h)
+
+of_vos : (c : Codes) (rest : List Op) → IsSmall c → Each FitsLine rest → Each FitsLine (vos_ops c rest)
+of_vos c rest s h =
+    either (c.step == 1) rest (op.Modify reg.Apb1enr 0 0x10000000 ∷ op.Read reg.Apb1enr ∷ scale_ops c rest) h
+    ((tt, omega arith, omega arith), (tt, of_scale c rest s h))
+
+of_over : (over : Bool) (rest : List Op) → Each FitsLine rest → Each FitsLine (over_ops over rest)
+of_over true rest h = (
+  (tt, omega arith, omega arith),
+  ((tt, omega arith, omega arith, omega arith, omega arith), ((tt, omega arith, omega arith), ((tt, omega arith, omega arith, omega arith, omega arith), h))),
+)
+of_over false rest h = h
 
 of_hse : (o : Oscillator) (rest : List Op) → Each FitsLine rest → Each FitsLine (hse_ops o rest)
 of_hse oscillator.Off rest h = h
@@ -143,9 +154,10 @@ of_late prefetch c rest s h = (
 
 pub writes_fit : (s : Setting) → IsSettable s → Each FitsLine (writes_of s)
 writes_fit s h =
-    let c : Codes = codes_of s.facts s.clock s.wait in
+    let c : Codes = codes_of s.version s.facts s.clock s.wait in
     let are : IsSmall c = small s h in
     let pins = gpio_section s.pins in
     let late = late_ops s.prefetch c pins in
-    let pll = pll_ops c late in
-    of_vos c.vos2 (hse_ops c.oscillator pll) (of_hse c.oscillator pll (of_pll c c.pll late are refl (of_late s.prefetch c pins are (of_section s.pins h.pins))))
+    let over = over_ops c.over late in
+    let pll = pll_ops c over in
+    of_vos c (hse_ops c.oscillator pll) are (of_hse c.oscillator pll (of_pll c c.pll over are refl (of_over c.over late (of_late s.prefetch c pins are (of_section s.pins h.pins)))))

@@ -127,8 +127,10 @@ module _ (text : List ℕ) (reg : Reg) (first : List ℕ) (b : Register part.Pol
         await_no_name polls fifth c none r m w n name rest f e =
             none name rest (past count IsCount count_apart fourth polls fifth n (await_end name) rest c (f.3, f.4) (limit_next r m w n name rest f e)).1
 
-pub no_name : (text : List ℕ) → HasNoText (await_end timeout.Hse) text → HasNoText (await_end timeout.Pll) text → HasNoText (await_end timeout.Latency) text → HasNoText (await_end timeout.Switch) text → (name : Timeout) (rest : List ℕ) → text ≢ await_end name ++ rest
-no_name text h p l s timeout.Hse = h
-no_name text h p l s timeout.Pll = p
-no_name text h p l s timeout.Latency = l
-no_name text h p l s timeout.Switch = s
+pub no_name : (text : List ℕ) → HasNoText (await_end timeout.Hse) text → HasNoText (await_end timeout.Pll) text → HasNoText (await_end timeout.Latency) text → HasNoText (await_end timeout.Switch) text → HasNoText (await_end timeout.Over) text → HasNoText (await_end timeout.OverSwitch) text → (name : Timeout) (rest : List ℕ) → text ≢ await_end name ++ rest
+no_name text h p l s o w timeout.Hse = h
+no_name text h p l s o w timeout.Pll = p
+no_name text h p l s o w timeout.Latency = l
+no_name text h p l s o w timeout.Switch = s
+no_name text h p l s o w timeout.Over = o
+no_name text h p l s o w timeout.OverSwitch = w

@@ -5,3 +5,5 @@ mod RegisterLemmas
 mod LineLemmas
 mod ReadLemmas
 mod WriteLemmas
+mod FrameLemmas
+mod WithinLemmas

@@ -14,7 +14,7 @@ use Rattle.reg_machine.specs.declared.op.Op.{Op}
 use Rattle.reg_machine.specs.declared.op.Op.TheVariants as op
 use Rattle.c_print.specs.declared.part.Part.{Part}
 use Rattle.c_print.specs.declared.part.Part.TheVariants as part
-use Rattle.c_print.specs.Text.{part_text, digit, digits_1, halves, digits_2, digits_4, digits_8, hex, number_after, count, timeout_name, await_end, op_line, frame, last_lines, body_lines, c_lines, c_text_of}
+use Rattle.c_print.specs.Text.{part_text, digit, digits_1, halves, digits_2, digits_4, digits_8, hex, number_after, count, timeout_name, await_end, op_line, awaits_over, frame, last_lines, body_lines, c_lines, c_text_of}
 use Rattle.c_print.specs.Reading.{FitsLine, onto_line, lines_of}
 use Rattle.c_print.specs.Fronts.{Below, IsCount}
 use Rattle.c_print.proofs.FrontLemmas.{TellsApart, after_both, both}
@@ -25,22 +25,24 @@ clash : (a b : ℕ) → a ≡ b → eqb a b ≡ false → ⊥
 clash a b e n = let t : eqb a b ≡ true = grind (arith, nat_tests) in let z : true ≡ false = sym t ∙ n in cc
 
 -- ---- timeouts
-name_at : ℕ → Timeout
-name_at c = cond (eqb c 72) timeout.Hse (cond (eqb c 80) timeout.Pll (cond (eqb c 76) timeout.Latency timeout.Switch))
+name_at : ℕ → ℕ → Timeout
+name_at c d = cond (eqb c 72) timeout.Hse (cond (eqb c 80) timeout.Pll (cond (eqb c 76) timeout.Latency (cond (eqb c 83) timeout.Switch (cond (eqb d 84) timeout.Over timeout.OverSwitch))))
 
-name_back : (name : Timeout) (rest : List ℕ) → name_at (get_or (await_end name ++ rest) 9 0) ≡ name
+name_back : (name : Timeout) (rest : List ℕ) → name_at (get_or (await_end name ++ rest) 9 0) (get_or (await_end name ++ rest) 14 0) ≡ name
 unfolding name_at await_end timeout_name
 name_back timeout.Hse rest = refl
 name_back timeout.Pll rest = refl
 name_back timeout.Latency rest = refl
 name_back timeout.Switch rest = refl
+name_back timeout.Over rest = refl
+name_back timeout.OverSwitch rest = refl
 
 abbrev pub IsAny : Timeout → Type 0
 IsAny name = Unit {0}
 
 pub await_end_apart : TellsApart await_end IsAny
 await_end_apart x y xs ys fx fy e =
-    let same : x ≡ y = sym (name_back x xs) ∙ ap (λ t. name_at (get_or t 9 0)) e ∙ name_back y ys in
+    let same : x ≡ y = sym (name_back x xs) ∙ ap (λ t. name_at (get_or t 9 0) (get_or t 14 0)) e ∙ name_back y ys in
     (same, append_cancel_left (await_end x) xs ys (e ∙ ap (λ n. await_end n ++ ys) (sym same)))
 
 -- ---- the fifth byte of what a line begins with, and of what may follow its address
@@ -281,6 +283,8 @@ await_end_line timeout.Hse = refl
 await_end_line timeout.Pll = refl
 await_end_line timeout.Latency = refl
 await_end_line timeout.Switch = refl
+await_end_line timeout.Over = refl
+await_end_line timeout.OverSwitch = refl
 
 -- a word, and then the rest of a line
 then_line : (p : Part) → clean (part_text p) ≡ true → (n : ℕ) (rest : List ℕ) → is_line rest ≡ true → is_line (number_after p n ++ rest) ≡ true
@@ -304,9 +308,10 @@ ops_are_lines : (ops : List Op) → Each FitsLine ops → Each IsLine (map op_li
 ops_are_lines [] f = tt
 ops_are_lines (o ∷ os) f = (op_is_line o f.0, ops_are_lines os f.1)
 
-frame_is_lines : Each IsLine frame
+frame_is_lines : (over : Bool) → Each IsLine (frame over)
 unfolding part_text
-frame_is_lines = (refl, (refl, (refl, (refl, (refl, (refl, tt))))))
+frame_is_lines true = (refl, (refl, (refl, (refl, (refl, (refl, tt))))))
+frame_is_lines false = (refl, (refl, (refl, (refl, (refl, (refl, tt))))))
 
 return_is_line : IsLine (part_text part.Return)
 unfolding part_text
@@ -348,16 +353,16 @@ pub concat_append : (xs ys : List (List ℕ)) → concat (xs ++ ys) ≡ concat x
 concat_append [] ys = refl
 concat_append (x ∷ xs) ys = ap (λ zs. x ++ zs) (concat_append xs ys) ∙ sym (append_assoc x (concat xs) (concat ys))
 
-pub after_frame_lines : (rest : List ℕ) → lines_of (concat frame ++ rest) ≡ frame ++ lines_of rest
-after_frame_lines rest = lines_then frame rest frame_is_lines
+pub after_frame_lines : (over : Bool) (rest : List ℕ) → lines_of (concat (frame over) ++ rest) ≡ frame over ++ lines_of rest
+after_frame_lines over rest = lines_then (frame over) rest (frame_is_lines over)
 
 each_take : (P : List ℕ → Type 0) (n : ℕ) (xs : List (List ℕ)) → Each P xs → Each P (take n xs)
 each_take P zero xs h = tt
 each_take P (suc n) [] h = tt
 each_take P (suc n) (x ∷ xs) h = (h.0, each_take P n xs h.1)
 
-pub frame_front : (n : ℕ) (rest : List ℕ) → lines_of (concat (take n frame) ++ rest) ≡ take n frame ++ lines_of rest
-frame_front n rest = lines_then (take n frame) rest (each_take IsLine n frame frame_is_lines)
+pub frame_front : (over : Bool) (n : ℕ) (rest : List ℕ) → lines_of (concat (take n (frame over)) ++ rest) ≡ take n (frame over) ++ lines_of rest
+frame_front over n rest = lines_then (take n (frame over)) rest (each_take IsLine n (frame over) (frame_is_lines over))
 
 pub ops_then_lines : (ops : List Op) (rest : List ℕ) → Each FitsLine ops → lines_of (concat (map op_line ops) ++ rest) ≡ map op_line ops ++ lines_of rest
 ops_then_lines ops rest f = lines_then (map op_line ops) rest (ops_are_lines ops f)
@@ -372,15 +377,15 @@ last_text : lines_of (concat last_lines) ≡ last_lines
 last_text = return_then (part_text part.Close ++ []) ∙ ap (λ ls. part_text part.Return ∷ ls) (close_then [])
 
 -- the text, part by part
-pub text_parts : (ops : List Op) → c_text_of ops ≡ concat frame ++ (concat (map op_line ops) ++ concat last_lines)
+pub text_parts : (ops : List Op) → c_text_of ops ≡ concat (frame (awaits_over ops)) ++ (concat (map op_line ops) ++ concat last_lines)
 unfolding c_text_of
-text_parts ops = concat_append frame (body_lines ops) ∙ ap (λ xs. concat frame ++ xs) (concat_append (map op_line ops) last_lines)
+text_parts ops = concat_append (frame (awaits_over ops)) (body_lines ops) ∙ ap (λ xs. concat (frame (awaits_over ops)) ++ xs) (concat_append (map op_line ops) last_lines)
 
 pub text_lines : (ops : List Op) → Each FitsLine ops → lines_of (c_text_of ops) ≡ c_lines ops
 text_lines ops f =
     let rest = concat (map op_line ops) ++ concat last_lines in
-    ap lines_of (text_parts ops) ∙ after_frame_lines rest
-    ∙ ap (λ ls. frame ++ ls) (ops_then_lines ops (concat last_lines) f ∙ ap (λ ls. map op_line ops ++ ls) last_text)
+    ap lines_of (text_parts ops) ∙ after_frame_lines (awaits_over ops) rest
+    ∙ ap (λ ls. frame (awaits_over ops) ++ ls) (ops_then_lines ops (concat last_lines) f ∙ ap (λ ls. map op_line ops ++ ls) last_text)
 
 -- ---- lengths
 some_line : (o : Op) → 0 < length (op_line o)
@@ -393,9 +398,10 @@ some_line (op.Await r m w n name) = omega arith
 pub line_long : (o : Op) (rest : List ℕ) → length rest < length (op_line o ++ rest)
 line_long o rest = let e = length-append (op_line o) rest in let l = some_line o in omega (arith, e, l)
 
-frame_length : length (concat frame) ≡ 180
+frame_length : (over : Bool) → 180 ≤ length (concat (frame over))
 unfolding part_text
-frame_length = refl
+frame_length true = omega arith
+frame_length false = omega arith
 
-pub frame_long : (rest : List ℕ) → length rest + 9 ≤ length (concat frame ++ rest)
-frame_long rest = let e = length-append (concat frame) rest in let l = frame_length in omega (arith, e, l)
+pub frame_long : (over : Bool) (rest : List ℕ) → length rest + 9 ≤ length (concat (frame over) ++ rest)
+frame_long over rest = let e = length-append (concat (frame over)) rest in let l = frame_length over in omega (arith, e, l)

@@ -1,14 +1,17 @@
 -- Where a text departs from every C text, and that a text has one reading.
-use Rattle.std.proofs.Common.{◌≡◌, ◌≢◌, ℕ, zero, suc, ◌+◌, ◌-◌, ◌<◌, ◌≤◌, List, [], ◌∷◌, ◌++◌, length, take, get_or, ◌⊎◌, inl, inr, refl, sym, ap, subst, ◌∙◌, arith}
+use Rattle.std.proofs.Common.{◌≡◌, ◌≢◌, ℕ, zero, suc, ◌+◌, ◌-◌, ◌<◌, ◌≤◌, List, [], ◌∷◌, ◌++◌, Bool, true, false, ◌||◌, length, take, drop, get_or, ◌⊎◌, inl, inr, refl, sym, ap, subst, ◌∙◌, arith}
 use Rattle.std.specs.Prelude.{map, Result, Ok, Err}
 use Rattle.std.specs.List.{concat}
-use Rattle.std.proofs.lemmas.List.{append_cancel_left, append-nil, take-take}
+use Rattle.std.proofs.lemmas.List.{append-nil, take-take}
 use Rattle.res_base.specs.Lists.{Each}
 use Rattle.reg_machine.specs.declared.op.Op.{Op}
 use Rattle.c_print.specs.declared.part.Part.TheVariants as part
-use Rattle.c_print.specs.Text.{part_text, op_line, frame, last_lines, body_lines, c_lines, c_text_of}
+use Rattle.reg_machine.specs.declared.op.Op.TheVariants as op
+use Rattle.reg_machine.specs.declared.op.Timeout.TheVariants as timeout
+use Rattle.reg_map.specs.declared.register.Reg.TheVariants as reg
+use Rattle.c_print.specs.Text.{part_text, op_line, is_over_op, awaits_over, answers_part, frame, last_lines, body_lines, c_lines, c_text_of}
 use Rattle.c_print.specs.Reading.{FitsLine, lines_of, AgreesFor, DepartsAt, Reads}
-use Rattle.c_print.specs.Fronts.{BeginsNone}
+use Rattle.c_print.specs.Fronts.{BeginsNone, IsFrameLine, FitsFrame}
 use Rattle.c_print.proofs.LineLemmas.{op_apart, not_return, joined, after_frame_lines, frame_front, ops_then_lines, return_then, close_then, text_parts, text_lines}
 
 -- ---- six lines more, and a line for each op more
@@ -23,44 +26,74 @@ past_ops_is : (ops : List Op) (k : ℕ) → past_ops ops k ≡ length ops + k
 past_ops_is [] k = omega arith
 past_ops_is (o ∷ os) k = omega (arith, past_ops_is os k)
 
-frame_cancel : (n : ℕ) (ls ms : List (List ℕ)) → take (six n) (frame ++ ls) ≡ take (six n) (frame ++ ms) → take n ls ≡ take n ms
-frame_cancel n ls ms e = append_cancel_left frame (take n ls) (take n ms) e
+-- the third line tells which it is
+third_line : (a b : Bool) → part_text (answers_part a) ≡ part_text (answers_part b) → a ≡ b
+unfolding part_text
+third_line true true e = refl
+third_line false false e = refl
+third_line true false e = absurd (let l = ap length e in omega (arith, l))
+third_line false true e = absurd (let l = ap length e in omega (arith, l))
 
-frame_same : (n : ℕ) (ls ms : List (List ℕ)) → take n ls ≡ take n ms → take (six n) (frame ++ ls) ≡ take (six n) (frame ++ ms)
-frame_same n ls ms e = ap (λ xs. frame ++ xs) e
+frame_cancel : (a b : Bool) (n : ℕ) (ls ms : List (List ℕ)) → take (six n) (frame a ++ ls) ≡ take (six n) (frame b ++ ms) → (a ≡ b) × (take n ls ≡ take n ms)
+frame_cancel a b n ls ms e = (third_line a b (ap (λ xs. get_or xs 2 []) e), ap (λ xs. drop 6 xs) e)
+
+frame_same : (over : Bool) (n : ℕ) (ls ms : List (List ℕ)) → take n ls ≡ take n ms → take (six n) (frame over ++ ls) ≡ take (six n) (frame over ++ ms)
+frame_same over n ls ms e = ap (λ xs. frame over ++ xs) e
 
 ops_same : (ops : List Op) (k : ℕ) (ls ms : List (List ℕ)) → take k ls ≡ take k ms → take (past_ops ops k) (map op_line ops ++ ls) ≡ take (past_ops ops k) (map op_line ops ++ ms)
 ops_same [] k ls ms e = e
 ops_same (o ∷ os) k ls ms e = ap (λ xs. op_line o ∷ xs) (ops_same os k ls ms e)
 
--- no ops go on as these lines do
-abbrev GoesOnAsNone : ℕ → List (List ℕ) → Type 0
-GoesOnAsNone k ls = (others : List Op) → Each FitsLine others → take k ls ≢ take k (body_lines others)
+-- no ops go on as these lines do, where over-drive was awaited before or is awaited by them as the third line says
+abbrev GoesOnAsNone : Bool → Bool → ℕ → List (List ℕ) → Type 0
+GoesOnAsNone before over k ls = (others : List Op) → Each FitsLine others → (before || awaits_over others) ≡ over → take k ls ≢ take k (body_lines others)
 
 head_same : (x y : List ℕ) (xs ys : List (List ℕ)) → x ∷ xs ≡ y ∷ ys → (x ≡ y) × (xs ≡ ys)
 head_same x y xs ys e = let first : x ≡ y = cc in let rest : xs ≡ ys = cc in (first, rest)
 
+or_assoc : (a b c : Bool) → (a || (b || c)) ≡ ((a || b) || c)
+or_assoc true b c = refl
+or_assoc false b c = refl
+
+-- a line is that of one op
+same_op : (o p : Op) → FitsLine o → FitsLine p → op_line o ≡ op_line p → o ≡ p
+same_op o p f g e = (op_apart o p [] [] f g (append-nil (op_line o) ∙ e ∙ sym (append-nil (op_line p)))).0
+
 -- the lines of the ops are those of the others, one by one
-lockstep : (ops : List Op) (k : ℕ) (ls : List (List ℕ)) → GoesOnAsNone k ls → GoesOnAsNone (past_ops ops k) (map op_line ops ++ ls)
-lockstep [] k ls none others f e = none others f e
-lockstep (o ∷ os) k ls none [] f e =
+lockstep : (before over : Bool) (ops : List Op) (k : ℕ) (ls : List (List ℕ)) → Each FitsLine ops → GoesOnAsNone (before || awaits_over ops) over k ls → GoesOnAsNone before over (past_ops ops k) (map op_line ops ++ ls)
+lockstep before over [] k ls fit none others f o e = none others f (ap (λ b. b || awaits_over others) (or_none before) ∙ o) e
+  where
+    or_none : (b : Bool) → (b || false) ≡ b
+    or_none true = refl
+    or_none false = refl
+lockstep before over (o ∷ os) k ls fit none [] f w e =
     not_return o (head_same (op_line o) (part_text part.Return) (take (past_ops os k) (map op_line os ++ ls)) (take (past_ops os k) (part_text part.Close ∷ [])) e).0
-lockstep (o ∷ os) k ls none (p ∷ ps) f e =
-    lockstep os k ls none ps f.1 (head_same (op_line o) (op_line p) (take (past_ops os k) (map op_line os ++ ls)) (take (past_ops os k) (body_lines ps)) e).1
+lockstep before over (o ∷ os) k ls fit none (p ∷ ps) f w e =
+    let two = head_same (op_line o) (op_line p) (take (past_ops os k) (map op_line os ++ ls)) (take (past_ops os k) (body_lines ps)) e in
+    let same = same_op o p fit.0 f.0 two.0 in
+    let none_from : GoesOnAsNone ((before || is_over_op o) || awaits_over os) over k ls = subst (λ b. GoesOnAsNone b over k ls) (or_assoc before (is_over_op o) (awaits_over os)) none in
+    lockstep (before || is_over_op o) over os k ls fit.1 none_from ps f.1
+    (ap (λ (x : Op). (before || is_over_op x) || awaits_over ps) same ∙ sym (or_assoc before (is_over_op p) (awaits_over ps)) ∙ w) two.1
 
 -- ---- a text that departs behind the lines of ops
-record IsBody (text : List ℕ) (ops : List Op) (rest : List ℕ) : Type 0 where
+record IsBody (over : Bool) (text : List ℕ) (ops : List Op) (rest : List ℕ) : Type 0 where
   fit : Each FitsLine ops
-  lines : lines_of text ≡ frame ++ (map op_line ops ++ lines_of rest)
+  lines : lines_of text ≡ frame over ++ (map op_line ops ++ lines_of rest)
 
-body_of : (text : List ℕ) (ops : List Op) (body rest : List ℕ) → Each FitsLine ops → text ≡ concat frame ++ body → body ≡ concat (map op_line ops) ++ rest → IsBody text ops rest
-body_of text ops body rest f t b = record {
+body_of : (over : Bool) (text : List ℕ) (ops : List Op) (body rest : List ℕ) → Each FitsLine ops → text ≡ concat (frame over) ++ body → body ≡ concat (map op_line ops) ++ rest → IsBody over text ops rest
+body_of over text ops body rest f t b = record {
   fit = f;
-  lines = ap lines_of t ∙ after_frame_lines body ∙ ap (λ xs. frame ++ lines_of xs) b ∙ ap (λ ls. frame ++ ls) (ops_then_lines ops rest f);
+  lines = ap lines_of t ∙ after_frame_lines over body ∙ ap (λ xs. frame over ++ lines_of xs) b ∙ ap (λ ls. frame over ++ ls) (ops_then_lines ops rest f);
 }
 
-departs_behind : (text : List ℕ) (ops : List Op) (rest : List ℕ) (k line : ℕ) → IsBody text ops rest → line ≡ length ops + 7 + k → take k (lines_of rest) ≡ take k last_lines → GoesOnAsNone (suc k) (lines_of rest) → DepartsAt line text
-departs_behind text ops rest k line b n same none =
+-- the others of a text that agrees would go on as none does
+differs_behind : (over : Bool) (text : List ℕ) (ops : List Op) (rest : List ℕ) (k : ℕ) → IsBody over text ops rest → GoesOnAsNone (awaits_over ops) over k (lines_of rest) → AgreesFor (six (past_ops ops k)) text → ⊥
+differs_behind over text ops rest k b none a =
+    let same = frame_cancel over (awaits_over a.0) (past_ops ops k) (map op_line ops ++ lines_of rest) (body_lines a.0) (ap (λ ls. take (six (past_ops ops k)) ls) (sym b.lines) ∙ a.2) in
+    lockstep false over ops k (lines_of rest) b.fit none a.0 a.1 (sym same.0) same.1
+
+departs_behind : (over : Bool) (text : List ℕ) (ops : List Op) (rest : List ℕ) (k line : ℕ) → IsBody over text ops rest → awaits_over ops ≡ over → line ≡ length ops + 7 + k → take k (lines_of rest) ≡ take k last_lines → GoesOnAsNone (awaits_over ops) over (suc k) (lines_of rest) → DepartsAt line text
+departs_behind over text ops rest k line b w n same none =
     let one : line - 1 ≡ six (past_ops ops k) = let p = past_ops_is ops k in omega (arith, p, n) in
     let two : line ≡ six (past_ops ops (suc k)) = let p = past_ops_is ops (suc k) in omega (arith, p, n) in
     record {
@@ -68,15 +101,11 @@ departs_behind text ops rest k line b n same none =
       before = subst (λ m. AgreesFor m text) (sym one) (
         ops,
         b.fit,
-        ap (λ ls. take (six (past_ops ops k)) ls) b.lines ∙ frame_same (past_ops ops k) (map op_line ops ++ lines_of rest) (body_lines ops) (ops_same ops k (lines_of rest) last_lines same),
+        ap (λ ls. take (six (past_ops ops k)) ls) b.lines ∙ frame_same over (past_ops ops k) (map op_line ops ++ lines_of rest) (body_lines ops) (ops_same ops k (lines_of rest) last_lines same)
+            ∙ ap (λ o. take (six (past_ops ops k)) (frame o ++ body_lines ops)) (sym w),
       );
-      not_here = λ a. differs (subst (λ m. AgreesFor m text) two a);
+      not_here = λ a. differs_behind over text ops rest (suc k) b none (subst (λ m. AgreesFor m text) two a);
     }
-  where
-    differs : AgreesFor (six (past_ops ops (suc k))) text → ⊥
-    differs a =
-        lockstep ops (suc k) (lines_of rest) none a.0 a.1
-        (frame_cancel (past_ops ops (suc k)) (map op_line ops ++ lines_of rest) (body_lines a.0) (ap (λ ls. take (six (past_ops ops (suc k))) ls) (sym b.lines) ∙ a.2))
 
 -- a text whose first line is l begins with l
 first_line : (l rest : List ℕ) → take 1 (lines_of rest) ≡ l ∷ [] → (more : List ℕ) × (rest ≡ l ++ more)
@@ -89,31 +118,90 @@ first_line l rest e = let r = split (lines_of rest) e in (concat r.0, sym (joine
 NoText : List ℕ → List ℕ → Type 0
 NoText l text = (rest : List ℕ) → text ≡ l ++ rest → ⊥
 
--- neither an op nor the line behind them
-pub no_op_nor_return : (text : List ℕ) (ops : List Op) (body rest : List ℕ) (line : ℕ) → Each FitsLine ops → text ≡ concat frame ++ body → body ≡ concat (map op_line ops) ++ rest → BeginsNone op_line FitsLine rest → ((more : List ℕ) → rest ≢ part_text part.Return ++ more) → line ≡ length ops + 7 → DepartsAt line text
-no_op_nor_return text ops body rest line f t b no_op no_return n =
-    departs_behind text ops rest 0 line (body_of text ops body rest f t b) (omega (arith, n)) refl none
+-- an op that the third line allows
+allowed : (before over : Bool) (p : Op) (ps : List Op) → FitsLine p → (before || awaits_over (p ∷ ps)) ≡ over → FitsFrame over p
+allowed before over p ps f w = record { line = f; named = λ none. right_none (is_over_op p) (awaits_over ps) (or_none before (is_over_op p || awaits_over ps) (w ∙ none)) }
   where
-    none : GoesOnAsNone 1 (lines_of rest)
-    none [] g e = let r = first_line (part_text part.Return) rest e in no_return r.0 r.1
-    none (p ∷ ps) g e = let r = first_line (op_line p) rest e in no_op p r.0 g.0 r.1
+    or_none : (a b : Bool) → (a || b) ≡ false → b ≡ false
+    or_none true b h = absurd cc
+    or_none false b h = h
 
-pub no_close : (text : List ℕ) (ops : List Op) (body rest last : List ℕ) (line : ℕ) → Each FitsLine ops → text ≡ concat frame ++ body → body ≡ concat (map op_line ops) ++ rest → rest ≡ part_text part.Return ++ last → ((more : List ℕ) → last ≢ part_text part.Close ++ more) → line ≡ length ops + 7 + 1 → DepartsAt line text
-no_close text ops body rest last line f t b r missing n =
-    departs_behind text ops rest 1 line (body_of text ops body rest f t b) n (ap (take 1) lines) (λ others g e. none others g (sym (ap (take 2) lines) ∙ e))
+    right_none : (a b : Bool) → (a || b) ≡ false → a ≡ false
+    right_none true b h = absurd cc
+    right_none false b h = refl
+
+-- neither an op nor the line behind them
+pub no_op_nor_return : (over : Bool) (text : List ℕ) (ops : List Op) (body rest : List ℕ) (line : ℕ) → Each FitsLine ops → awaits_over ops ≡ over → text ≡ concat (frame over) ++ body → body ≡ concat (map op_line ops) ++ rest → BeginsNone op_line (FitsFrame over) rest → ((more : List ℕ) → rest ≢ part_text part.Return ++ more) → line ≡ length ops + 7 → DepartsAt line text
+no_op_nor_return over text ops body rest line f w t b no_op no_return n =
+    departs_behind over text ops rest 0 line (body_of over text ops body rest f t b) w (omega (arith, n)) refl none
+  where
+    none : GoesOnAsNone (awaits_over ops) over 1 (lines_of rest)
+    none [] g o e = let r = first_line (part_text part.Return) rest e in no_return r.0 r.1
+    none (p ∷ ps) g o e = let r = first_line (op_line p) rest e in no_op p r.0 (allowed (awaits_over ops) over p ps g.0 o) r.1
+
+-- an await of over-drive
+late : Op
+late = op.Await reg.PwrCsr 0 0 1 timeout.Over
+
+late_fits : FitsLine late
+unfolding late
+late_fits = (tt, omega arith, omega arith, omega arith, omega arith)
+
+-- a third line that names over-drive, and no op that awaits it: the line behind them is not due
+pub return_not_due : (text : List ℕ) (ops : List Op) (body rest : List ℕ) (line : ℕ) → Each FitsLine ops → awaits_over ops ≡ false → text ≡ concat (frame true) ++ body → body ≡ concat (map op_line ops) ++ rest → BeginsNone op_line (FitsFrame true) rest → line ≡ length ops + 7 → DepartsAt line text
+unfolding late
+return_not_due text ops body rest line f w t b no_op n =
+    let is = body_of true text ops body rest f t b in
+    let one : line - 1 ≡ six (past_ops ops 0) = let p = past_ops_is ops 0 in omega (arith, p, n) in
+    let two : line ≡ six (past_ops ops 1) = let p = past_ops_is ops 1 in omega (arith, p, n) in
+    record {
+      from_one = omega (arith, n);
+      before = subst (λ m. AgreesFor m text) (sym one) (
+        ops ++ late ∷ [],
+        with_late ops f,
+        ap (λ ls. take (six (past_ops ops 0)) ls) is.lines
+            ∙ frame_same true (past_ops ops 0) (map op_line ops ++ lines_of rest) (body_lines (ops ++ late ∷ [])) (front_same ops (lines_of rest))
+            ∙ ap (λ o. take (six (past_ops ops 0)) (frame o ++ body_lines (ops ++ late ∷ []))) (sym (is_awaited ops)),
+      );
+      not_here = λ a. differs_behind true text ops rest 1 is none (subst (λ m. AgreesFor m text) two a);
+    }
+  where
+    with_late : (os : List Op) → Each FitsLine os → Each FitsLine (os ++ late ∷ [])
+    with_late [] g = (late_fits, tt)
+    with_late (o ∷ os) g = (g.0, with_late os g.1)
+
+    is_awaited : (os : List Op) → awaits_over (os ++ late ∷ []) ≡ true
+    is_awaited [] = refl
+    is_awaited (o ∷ os) = ap (λ b. is_over_op o || b) (is_awaited os) ∙ or_true (is_over_op o)
+      where
+        or_true : (b : Bool) → (b || true) ≡ true
+        or_true true = refl
+        or_true false = refl
+
+    front_same : (os : List Op) (ls : List (List ℕ)) → take (past_ops os 0) (map op_line os ++ ls) ≡ take (past_ops os 0) (body_lines (os ++ late ∷ []))
+    front_same [] ls = refl
+    front_same (o ∷ os) ls = ap (λ xs. op_line o ∷ xs) (front_same os ls)
+
+    none : GoesOnAsNone (awaits_over ops) true 1 (lines_of rest)
+    none [] g o e = let z : false ≡ true = sym (ap (λ b. b || false) w) ∙ o in absurd cc
+    none (p ∷ ps) g o e = let r = first_line (op_line p) rest e in no_op p r.0 (allowed (awaits_over ops) true p ps g.0 o) r.1
+
+pub no_close : (over : Bool) (text : List ℕ) (ops : List Op) (body rest last : List ℕ) (line : ℕ) → Each FitsLine ops → awaits_over ops ≡ over → text ≡ concat (frame over) ++ body → body ≡ concat (map op_line ops) ++ rest → rest ≡ part_text part.Return ++ last → ((more : List ℕ) → last ≢ part_text part.Close ++ more) → line ≡ length ops + 7 + 1 → DepartsAt line text
+no_close over text ops body rest last line f w t b r missing n =
+    departs_behind over text ops rest 1 line (body_of over text ops body rest f t b) w n (ap (take 1) lines) (λ others g o e. none others g (sym (ap (take 2) lines) ∙ e))
   where
     lines : lines_of rest ≡ part_text part.Return ∷ lines_of last
     lines = ap lines_of r ∙ return_then last
 
-    none : GoesOnAsNone 2 (part_text part.Return ∷ lines_of last)
+    none : (others : List Op) → Each FitsLine others → take 2 (part_text part.Return ∷ lines_of last) ≢ take 2 (body_lines others)
     none [] g e =
         let q = first_line (part_text part.Close) last (head_same (part_text part.Return) (part_text part.Return) (take 1 (lines_of last)) (part_text part.Close ∷ []) e).1 in
         missing q.0 q.1
     none (p ∷ ps) g e = not_return p (sym (head_same (part_text part.Return) (op_line p) (take 1 (lines_of last)) (take 1 (body_lines ps)) e).0)
 
-pub past_end : (text : List ℕ) (ops : List Op) (body rest last more : List ℕ) (line : ℕ) → Each FitsLine ops → text ≡ concat frame ++ body → body ≡ concat (map op_line ops) ++ rest → rest ≡ part_text part.Return ++ last → last ≡ part_text part.Close ++ more → 0 < length more → line ≡ length ops + 7 + 2 → DepartsAt line text
-past_end text ops body rest last more line f t b r c some n =
-    departs_behind text ops rest 2 line (body_of text ops body rest f t b) n (ap (take 2) lines) (λ others g e. none others g (sym (ap (take 3) lines) ∙ e))
+pub past_end : (over : Bool) (text : List ℕ) (ops : List Op) (body rest last more : List ℕ) (line : ℕ) → Each FitsLine ops → awaits_over ops ≡ over → text ≡ concat (frame over) ++ body → body ≡ concat (map op_line ops) ++ rest → rest ≡ part_text part.Return ++ last → last ≡ part_text part.Close ++ more → 0 < length more → line ≡ length ops + 7 + 2 → DepartsAt line text
+past_end over text ops body rest last more line f w t b r c some n =
+    departs_behind over text ops rest 2 line (body_of over text ops body rest f t b) w n (ap (take 2) lines) (λ others g o e. none others g (sym (ap (take 3) lines) ∙ e))
   where
     lines : lines_of rest ≡ part_text part.Return ∷ (part_text part.Close ∷ lines_of more)
     lines = ap lines_of r ∙ return_then last ∙ ap (λ xs. part_text part.Return ∷ lines_of xs) c ∙ ap (λ ls. part_text part.Return ∷ ls) (close_then more)
@@ -126,7 +214,7 @@ past_end text ops body rest last more line f t b r c some n =
         nil [] e = refl
         nil (l ∷ ls) e = absurd cc
 
-    none : GoesOnAsNone 3 (part_text part.Return ∷ (part_text part.Close ∷ lines_of more))
+    none : (others : List Op) → Each FitsLine others → take 3 (part_text part.Return ∷ (part_text part.Close ∷ lines_of more)) ≢ take 3 (body_lines others)
     none [] g e =
         let q = (head_same (part_text part.Return) (part_text part.Return) (part_text part.Close ∷ take 1 (lines_of more)) (part_text part.Close ∷ []) e).1 in
         no_lines more some (head_same (part_text part.Close) (part_text part.Close) (take 1 (lines_of more)) [] q).1
@@ -138,37 +226,48 @@ take_front zero xs ys zs l = refl
 take_front (suc n) [] ys zs l = absurd (omega arith)
 take_front (suc n) (x ∷ xs) ys zs l = ap (λ ls. x ∷ ls) (take_front n xs ys zs (omega arith))
 
-place_line : (n : ℕ) (xs ys zs : List (List ℕ)) → n < length xs → take (suc n) (take n xs ++ ys) ≡ take (suc n) (xs ++ zs) → take 1 ys ≡ get_or xs n [] ∷ []
-place_line n [] ys zs l e = absurd (omega arith)
-place_line zero (x ∷ xs) ys zs l e = e
-place_line (suc n) (x ∷ xs) ys zs l e = place_line n xs ys zs (omega arith) (head_same x x (take (suc n) (take n xs ++ ys)) (take (suc n) (xs ++ zs)) e).1
+place_line : (n : ℕ) (xs xs' ys zs : List (List ℕ)) → n < length xs → n < length xs' → take (suc n) (take n xs ++ ys) ≡ take (suc n) (xs' ++ zs) → (take n xs' ≡ take n xs) × (take 1 ys ≡ get_or xs' n [] ∷ [])
+place_line n [] xs' ys zs l m e = absurd (omega arith)
+place_line n (x ∷ xs) [] ys zs l m e = absurd (omega arith)
+place_line zero (x ∷ xs) (x' ∷ xs') ys zs l m e = (refl, e)
+place_line (suc n) (x ∷ xs) (x' ∷ xs') ys zs l m e =
+    let two = head_same x x' (take (suc n) (take n xs ++ ys)) (take (suc n) (xs' ++ zs)) e in
+    let more = place_line n xs xs' ys zs (omega arith) (omega arith) two.1 in
+    (ap (λ y. y ∷ take n xs') (sym two.0) ∙ ap (λ ls. x ∷ ls) more.0, more.1)
 
-pub within_frame : (text : List ℕ) (place : ℕ) (rest : List ℕ) (line : ℕ) → place < 6 → text ≡ concat (take place frame) ++ rest → ((more : List ℕ) → rest ≢ get_or frame place [] ++ more) → line ≡ place + 1 → DepartsAt line text
-within_frame text place rest line l t none n =
+pub within_frame : (over : Bool) (text : List ℕ) (place : ℕ) (rest : List ℕ) (line : ℕ) → place < 6 → text ≡ concat (take place (frame over)) ++ rest → ((next : Bool) (more : List ℕ) → IsFrameLine place over rest next more → ⊥) → line ≡ place + 1 → DepartsAt line text
+unfolding late
+within_frame over text place rest line l t none n =
     let one : line - 1 ≡ place = omega (arith, n) in
     let two : line ≡ suc place = omega (arith, n) in
     record {
       from_one = omega (arith, n);
-      before = subst (λ m. AgreesFor m text) (sym one) ([], tt, ap (take place) lines ∙ take_front place frame (lines_of rest) last_lines (omega (arith, l)));
+      before = subst (λ m. AgreesFor m text) (sym one) (agrees over t);
       not_here = λ a. differs (subst (λ m. AgreesFor m text) two a);
     }
   where
-    lines : lines_of text ≡ take place frame ++ lines_of rest
-    lines = ap lines_of t ∙ frame_front place rest
+    lines : (o : Bool) → text ≡ concat (take place (frame o)) ++ rest → lines_of text ≡ take place (frame o) ++ lines_of rest
+    lines o e = ap lines_of e ∙ frame_front o place rest
+
+    agrees : (o : Bool) → text ≡ concat (take place (frame o)) ++ rest → AgreesFor place text
+    agrees true e = (late ∷ [], (late_fits, tt), ap (take place) (lines true e) ∙ take_front place (frame true) (lines_of rest) (body_lines (late ∷ [])) (omega (arith, l)))
+    agrees false e = ([], tt, ap (take place) (lines false e) ∙ take_front place (frame false) (lines_of rest) last_lines (omega (arith, l)))
 
     differs : AgreesFor (suc place) text → ⊥
     differs a =
-        let here = place_line place frame (lines_of rest) (body_lines a.0) (omega (arith, l)) (sym (ap (take (suc place)) lines) ∙ a.2) in
-        let r = first_line (get_or frame place []) rest here in
-        none r.0 r.1
+        let next = awaits_over a.0 in
+        let here = place_line place (frame over) (frame next) (lines_of rest) (body_lines a.0) (omega (arith, l)) (omega (arith, l)) (sym (ap (take (suc place)) (lines over t)) ∙ a.2) in
+        let r = first_line (get_or (frame next) place []) rest here.1 in
+        none next r.0 (here.0, r.1)
 
 -- ---- a C text
-pub is_text : (text : List ℕ) (ops : List Op) (body rest last : List ℕ) → text ≡ concat frame ++ body → body ≡ concat (map op_line ops) ++ rest → rest ≡ part_text part.Return ++ last → last ≡ part_text part.Close ++ [] → c_text_of ops ≡ text
-is_text text ops body rest last t b r c =
+pub is_text : (over : Bool) (text : List ℕ) (ops : List Op) (body rest last : List ℕ) → awaits_over ops ≡ over → text ≡ concat (frame over) ++ body → body ≡ concat (map op_line ops) ++ rest → rest ≡ part_text part.Return ++ last → last ≡ part_text part.Close ++ [] → c_text_of ops ≡ text
+is_text over text ops body rest last w t b r c =
     text_parts ops
-    ∙ ap (λ xs. concat frame ++ (concat (map op_line ops) ++ (part_text part.Return ++ xs))) (sym c)
-    ∙ ap (λ xs. concat frame ++ (concat (map op_line ops) ++ xs)) (sym r)
-    ∙ ap (λ xs. concat frame ++ xs) (sym b) ∙ sym t
+    ∙ ap (λ o. concat (frame o) ++ (concat (map op_line ops) ++ (part_text part.Return ++ (part_text part.Close ++ [])))) w
+    ∙ ap (λ xs. concat (frame over) ++ (concat (map op_line ops) ++ (part_text part.Return ++ xs))) (sym c)
+    ∙ ap (λ xs. concat (frame over) ++ (concat (map op_line ops) ++ xs)) (sym r)
+    ∙ ap (λ xs. concat (frame over) ++ xs) (sym b) ∙ sym t
 
 -- ---- one reading
 same_bodies : (ops others : List Op) → Each FitsLine ops → Each FitsLine others → body_lines ops ≡ body_lines others → ops ≡ others
@@ -182,7 +281,7 @@ same_bodies (o ∷ os) (p ∷ ps) f g e =
 
 same_ops : (ops others : List Op) → Each FitsLine ops → Each FitsLine others → c_text_of ops ≡ c_text_of others → ops ≡ others
 same_ops ops others f g e =
-    same_bodies ops others f g (append_cancel_left frame (body_lines ops) (body_lines others) (sym (text_lines ops f) ∙ ap lines_of e ∙ text_lines others g))
+    same_bodies ops others f g (ap (λ xs. drop 6 xs) (sym (text_lines ops f) ∙ ap lines_of e ∙ text_lines others g))
 
 -- a C text departs nowhere
 never : (text : List ℕ) (ops : List Op) (line : ℕ) → Each FitsLine ops → c_text_of ops ≡ text → DepartsAt line text → ⊥

@@ -43,7 +43,8 @@ reg_of a =
     (cond (eqb a 0x40023830) reg.Ahb1enr
     (cond (eqb a 0x40023840) reg.Apb1enr
     (cond (eqb a 0x40023C00) reg.Acr
-    (cond (eqb a 0x40007000) reg.PwrCr (port_reg (a - 0x40020000))))))))
+    (cond (eqb a 0x40007000) reg.PwrCr
+    (cond (eqb a 0x40007004) reg.PwrCsr (port_reg (a - 0x40020000)))))))))
 
 in_ports : (a : ℕ) → 0x40020000 ≤ a → a < 0x40022400 → reg_of a ≡ port_reg (a - 0x40020000)
 unfolding reg_of
@@ -55,7 +56,8 @@ in_ports a low high =
     let a5 : eqb a 0x40023840 ≡ false = grind (arith, nat_tests) in
     let a6 : eqb a 0x40023C00 ≡ false = grind (arith, nat_tests) in
     let a7 : eqb a 0x40007000 ≡ false = grind (arith, nat_tests) in
-    rw (a1, a2, a3, a4, a5, a6, a7) refl
+    let a8 : eqb a 0x40007004 ≡ false = grind (arith, nat_tests) in
+    rw (a1, a2, a3, a4, a5, a6, a7, a8) refl
 
 place_back : (port off a : ℕ) → off < 0x400 → a ≡ 0x40020000 + 0x400 * port + off → ((a - 0x40020000) / 0x400 ≡ port) × ((a - 0x40020000) % 0x400 ≡ off)
 place_back port off a h e = (omega arith, omega arith)
@@ -69,6 +71,7 @@ reg_back reg.Ahb1enr f = refl
 reg_back reg.Apb1enr f = refl
 reg_back reg.Acr f = refl
 reg_back reg.PwrCr f = refl
+reg_back reg.PwrCsr f = refl
 reg_back (reg.Gpio port k) f =
     let small = offset_small k in
     let a = 0x40020000 + 0x400 * port + offset k in
@@ -87,6 +90,7 @@ address_small reg.Ahb1enr f = omega arith
 address_small reg.Apb1enr f = omega arith
 address_small reg.Acr f = omega arith
 address_small reg.PwrCr f = omega arith
+address_small reg.PwrCsr f = omega arith
 address_small (reg.Gpio port k) f = let small = offset_small k in omega (arith, small, f)
 
 abbrev pub register_after : Part → Reg → List ℕ

@@ -1,6 +1,6 @@
 -- The C function that makes a list of accesses to registers, line by line.
-use Rattle.std.specs.Prelude.{ℕ, ◌+◌, ◌/◌, ◌%◌, List, [], ◌∷◌, ◌++◌, map, codes, decimal, nat_lt, if◌then◌else◌}
-use Rattle.std.specs.List.{concat}
+use Rattle.std.specs.Prelude.{ℕ, ◌+◌, ◌/◌, ◌%◌, List, [], ◌∷◌, ◌++◌, map, Bool, true, false, codes, decimal, nat_lt, if◌then◌else◌}
+use Rattle.std.specs.List.{concat, list_any}
 use Rattle.reg_map.specs.Registers.{address}
 use Rattle.reg_machine.specs.declared.op.Timeout.{Timeout}
 use Rattle.reg_machine.specs.declared.op.Timeout.TheVariants as timeout
@@ -14,6 +14,7 @@ unfoldable pub part_text : Part → List ℕ
 part_text part.Include = codes "#include <stdint.h>" ++ 10 ∷ []
 part_text part.Macro = codes "#define REG(a) (*(volatile uint32_t *)(a))" ++ 10 ∷ []
 part_text part.Answers = codes "enum { DONE, HSE_TIMEOUT, PLL_TIMEOUT, LATENCY_TIMEOUT, SWITCH_TIMEOUT };" ++ 10 ∷ []
+part_text part.OverAnswers = codes "enum { DONE, HSE_TIMEOUT, PLL_TIMEOUT, LATENCY_TIMEOUT, SWITCH_TIMEOUT, OVER_TIMEOUT, OVER_SWITCH_TIMEOUT };" ++ 10 ∷ []
 part_text part.Function = codes "int board_init(void)" ++ 10 ∷ []
 part_text part.Open = codes "{" ++ 10 ∷ []
 part_text part.Counter = codes "    uint32_t polls;" ++ 10 ∷ []
@@ -73,6 +74,8 @@ timeout_name timeout.Hse = codes "HSE_TIMEOUT"
 timeout_name timeout.Pll = codes "PLL_TIMEOUT"
 timeout_name timeout.Latency = codes "LATENCY_TIMEOUT"
 timeout_name timeout.Switch = codes "SWITCH_TIMEOUT"
+timeout_name timeout.Over = codes "OVER_TIMEOUT"
+timeout_name timeout.OverSwitch = codes "OVER_SWITCH_TIMEOUT"
 
 -- what stands behind the count of polls
 unfoldable pub await_end : Timeout → List ℕ
@@ -86,9 +89,31 @@ op_line (op.Read r) = number_after part.Load (address r) ++ part_text part.LoadE
 op_line (op.Await r mask want polls name) =
     number_after part.Poll (address r) ++ (number_after part.Under mask ++ (number_after part.IsNot want ++ (part_text part.AtMost ++ (count polls ++ await_end name))))
 
+-- an op that awaits over-drive, or its switch
+abbrev pub is_over : Timeout → Bool
+is_over timeout.Hse = false
+is_over timeout.Pll = false
+is_over timeout.Latency = false
+is_over timeout.Switch = false
+is_over timeout.Over = true
+is_over timeout.OverSwitch = true
+
+abbrev pub is_over_op : Op → Bool
+is_over_op (op.Write r value) = false
+is_over_op (op.Modify r clear set) = false
+is_over_op (op.Read r) = false
+is_over_op (op.Await r mask want polls name) = is_over name
+
+abbrev pub awaits_over : List Op → Bool
+awaits_over ops = list_any is_over_op ops
+
+-- the third line names the timeouts of over-drive where some op awaits it
+abbrev pub answers_part : Bool → Part
+answers_part over = if over then part.OverAnswers else part.Answers
+
 -- the six lines before those of the ops
-abbrev pub frame : List (List ℕ)
-frame = part_text part.Include ∷ part_text part.Macro ∷ part_text part.Answers ∷ part_text part.Function ∷ part_text part.Open ∷ part_text part.Counter ∷ []
+abbrev pub frame : Bool → List (List ℕ)
+frame over = part_text part.Include ∷ part_text part.Macro ∷ part_text (answers_part over) ∷ part_text part.Function ∷ part_text part.Open ∷ part_text part.Counter ∷ []
 
 -- the two lines behind them
 abbrev pub last_lines : List (List ℕ)
@@ -98,7 +123,7 @@ abbrev pub body_lines : List Op → List (List ℕ)
 body_lines ops = map op_line ops ++ last_lines
 
 abbrev pub c_lines : List Op → List (List ℕ)
-c_lines ops = frame ++ body_lines ops
+c_lines ops = frame (awaits_over ops) ++ body_lines ops
 
 unfoldable pub c_text_of : List Op → List ℕ
 c_text_of ops = concat (c_lines ops)

@@ -1,20 +1,35 @@
 //! What a text begins with, and the rest of the text.
-ghost use Rattle.std.specs.Prelude.{◌≡◌, ◌≢◌, ℕ, ◌<◌, ◌≤◌, ◌^◌, List, ◌++◌, position, ◌==◌, MatchOption};
+ghost use Rattle.std.specs.Prelude.{◌≡◌, ◌≢◌, ℕ, ◌<◌, ◌≤◌, ◌^◌, List, [], ◌++◌, Bool, get_or, position, ◌==◌, MatchOption};
 ghost use Rattle.reg_map.specs.Registers.{IsRegister, address};
 ghost use Rattle.reg_map.specs.declared.register.Reg.{Reg};
 ghost use Rattle.reg_machine.specs.declared.op.Op.TheVariants as op;
 ghost use Rattle.reg_machine.specs.declared.op.Timeout.{Timeout};
-ghost use Rattle.c_print.specs.Text.{part_text, digit, digits_1, digits_2, digits_4, digits_8, hex, number_after, count, await_end, op_line};
+ghost use Rattle.c_print.specs.Text.{part_text, digit, digits_1, digits_2, digits_4, digits_8, hex, number_after, count, await_end, op_line, frame};
 ghost use Rattle.c_print.specs.Reading.{FitsLine};
-ghost use Rattle.c_print.specs.Fronts.{Begins, BeginsNone, Below, IsCount};
+ghost use Rattle.c_print.specs.Fronts.{Begins, BeginsNone, Below, IsCount, GoesOn, IsFrameLine, FitsFrame};
 
-use crate::part::{Part, await_end, text_of};
+use crate::part::{Part, await_end, frame_part, is_over_op, text_of};
 use reg_machine::{Op, Timeout};
 use reg_map::{Reg, addr, reg_at};
 use res_base::parse_dec;
 
+/// The access whose line a text begins with, where the third line of the frame names its timeout.
+pub fn op_within(over: bool, text: &[u8]) -> Option<(Op, &[u8])>
+    ensures { MatchOption result (BeginsNone op_line (FitsFrame over) text.now) (λ x. Begins op_line (FitsFrame over) text.now x.0 x.1.now) }
+{
+    let (op, rest) = op_at(text)?;
+    if over {
+        return Some((op, rest));
+    }
+    if is_over_op(&op) {
+        None
+    } else {
+        Some((op, rest))
+    }
+}
+
 /// The access whose line a text begins with.
-pub fn op_at(text: &[u8]) -> Option<(Op, &[u8])>
+fn op_at(text: &[u8]) -> Option<(Op, &[u8])>
     ensures { MatchOption result (BeginsNone op_line FitsLine text.now) (λ x. Begins op_line FitsLine text.now x.0 x.1.now) }
 {
     if let Some(found) = write_at(text) {
@@ -188,8 +203,14 @@ fn await_end_at(text: &[u8]) -> Option<(Timeout, &[u8])>
     if let Some(rest) = after_await_end(Timeout::Latency, text) {
         return Some((Timeout::Latency, rest));
     }
-    let rest = after_await_end(Timeout::Switch, text)?;
-    Some((Timeout::Switch, rest))
+    if let Some(rest) = after_await_end(Timeout::Switch, text) {
+        return Some((Timeout::Switch, rest));
+    }
+    if let Some(rest) = after_await_end(Timeout::Over, text) {
+        return Some((Timeout::Over, rest));
+    }
+    let rest = after_await_end(Timeout::OverSwitch, text)?;
+    Some((Timeout::OverSwitch, rest))
 }
 
 fn after_await_end(name: Timeout, text: &[u8]) -> Option<&[u8]>
@@ -203,4 +224,38 @@ pub fn after(part: Part, text: &[u8]) -> Option<&[u8]>
     ensures { MatchOption result ((rest : List ℕ) → text.now ≢ part_text part ++ rest) (λ x. text.now ≡ part_text part ++ x.now) }
 {
     text.strip_prefix(text_of(part))
+}
+
+/// The line of the frame at a place, from 0, with which a text begins, and whether the third line names the timeouts of
+/// over-drive: `over` tells it once that line is read.
+pub fn frame_line_at(over: bool, place: usize, text: &[u8]) -> Option<(bool, &[u8])>
+    requires { place < 6 }
+    ensures { MatchOption result ((next : Bool) (rest : List ℕ) → IsFrameLine place over text.now next rest → ⊥) (λ x. IsFrameLine place over text.now x.0 x.1.now) }
+{
+    if place == 2 {
+        answers_at(over, text)
+    } else {
+        same_line_at(over, place, text)
+    }
+}
+
+/// The third line, in either form.
+fn answers_at(over: bool, text: &[u8]) -> Option<(bool, &[u8])>
+    ensures { MatchOption result ((next : Bool) (rest : List ℕ) → IsFrameLine 2 over text.now next rest → ⊥) (λ x. IsFrameLine 2 over text.now x.0 x.1.now) }
+{
+    if let Some(rest) = after(Part::Answers, text) {
+        return Some((false, rest));
+    }
+    let rest = after(Part::OverAnswers, text)?;
+    Some((true, rest))
+}
+
+/// Any other line, which has one form.
+fn same_line_at(over: bool, place: usize, text: &[u8]) -> Option<(bool, &[u8])>
+    requires place { place < 6 }
+    requires other { place ≢ 2 }
+    ensures { MatchOption result ((next : Bool) (rest : List ℕ) → IsFrameLine place over text.now next rest → ⊥) (λ x. IsFrameLine place over text.now x.0 x.1.now) }
+{
+    let rest = after(frame_part(over, place), text)?;
+    Some((over, rest))
 }

@@ -1,7 +1,8 @@
 ghost use Rattle.std.specs.Prelude.{◌≡◌, ◌<◌, [], get_or};
-ghost use Rattle.c_print.specs.Text.{part_text, await_end, frame};
+ghost use Rattle.std.specs.List.{list_any};
+ghost use Rattle.c_print.specs.Text.{part_text, await_end, is_over, is_over_op, awaits_over, answers_part, frame};
 
-use reg_machine::Timeout;
+use reg_machine::{Op, Timeout};
 
 /// A text that stands in every C function, or around the numbers of a line.
 #[derive(Clone, Copy, Debug, PartialEq, Eq)]
@@ -10,6 +11,8 @@ pub enum Part {
     Include,
     Macro,
     Answers,
+    /// The third line, where over-drive is awaited.
+    OverAnswers,
     Function,
     Open,
     Counter,
@@ -44,6 +47,9 @@ pub fn text_of(part: Part) -> &'static [u8]
         Part::Answers => {
             b"enum { DONE, HSE_TIMEOUT, PLL_TIMEOUT, LATENCY_TIMEOUT, SWITCH_TIMEOUT };\n"
         }
+        Part::OverAnswers => {
+            b"enum { DONE, HSE_TIMEOUT, PLL_TIMEOUT, LATENCY_TIMEOUT, SWITCH_TIMEOUT, OVER_TIMEOUT, OVER_SWITCH_TIMEOUT };\n"
+        }
         Part::Function => b"int board_init(void)\n",
         Part::Open => b"{\n",
         Part::Counter => b"    uint32_t polls;\n",
@@ -76,18 +82,63 @@ pub fn await_end(name: Timeout) -> &'static [u8]
         Timeout::Pll => b") return PLL_TIMEOUT; }\n",
         Timeout::Latency => b") return LATENCY_TIMEOUT; }\n",
         Timeout::Switch => b") return SWITCH_TIMEOUT; }\n",
+        Timeout::Over => b") return OVER_TIMEOUT; }\n",
+        Timeout::OverSwitch => b") return OVER_SWITCH_TIMEOUT; }\n",
     }
 }
 
-/// The line at a place of the frame, from 0.
-pub fn frame_part(place: usize) -> Part
+/// Whether an await waits for over-drive or its switch.
+fn is_over(name: Timeout) -> bool
+    ensures { result ≡ is_over name }
+{
+    match name {
+        Timeout::Over | Timeout::OverSwitch => true,
+        Timeout::Hse | Timeout::Pll | Timeout::Latency | Timeout::Switch => false,
+    }
+}
+
+pub fn is_over_op(op: &Op) -> bool
+    ensures { result ≡ is_over_op op.now }
+{
+    match *op {
+        Op::Await {
+            reg: _,
+            mask: _,
+            want: _,
+            polls: _,
+            name,
+        } => is_over(name),
+        _ => false,
+    }
+}
+
+/// Whether some access waits for over-drive or its switch.
+pub fn awaits_over(ops: &[Op]) -> bool
+    ensures { result ≡ awaits_over ops.now }
+{
+    ops.iter().any(|op| is_over_op(op))
+}
+
+/// The third line of the frame.
+fn answers_part(over: bool) -> Part
+    ensures { result ≡ answers_part over }
+{
+    if over {
+        Part::OverAnswers
+    } else {
+        Part::Answers
+    }
+}
+
+/// The line at a place of the frame, from 0; the third one tells whether over-drive is awaited.
+pub fn frame_part(over: bool, place: usize) -> Part
     requires { place < 6 }
-    ensures { part_text result ≡ get_or frame place [] }
+    ensures { part_text result ≡ get_or (frame over) place [] }
 {
     match place {
         0 => Part::Include,
         1 => Part::Macro,
-        2 => Part::Answers,
+        2 => answers_part(over),
         3 => Part::Function,
         4 => Part::Open,
         _ => Part::Counter,

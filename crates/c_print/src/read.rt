@@ -1,12 +1,12 @@
-ghost use Rattle.std.specs.Prelude.{◌≡◌, ◌+◌, ◌<◌, ◌≤◌, ◌^◌, ◌++◌, map, length, IfOk, IfErr};
+ghost use Rattle.std.specs.Prelude.{◌≡◌, ◌+◌, ◌<◌, ◌≤◌, ◌^◌, ◌++◌, ◌||◌, not, map, length, IfOk, IfErr};
 ghost use Rattle.std.specs.List.{concat};
-ghost use Rattle.c_print.specs.Text.{op_line, frame};
+ghost use Rattle.c_print.specs.Text.{op_line, awaits_over, frame};
 ghost use Rattle.c_print.specs.Reading.{FitsLine, Reads, Refuses};
 ghost use Rattle.c_print.specs.Fronts.{TakesOps};
 
 use crate::fault::CFault;
-use crate::front::{after, op_at};
-use crate::part::{Part, frame_part};
+use crate::front::{after, frame_line_at, op_within};
+use crate::part::{Part, awaits_over};
 use reg_machine::Op;
 use res_base::OutOfMemory;
 use std::alloc::Global;
@@ -21,9 +21,12 @@ pub fn read_c(alloc: Global, text: &[u8]) -> Result<Vec<Op>, CFault>
     ensures read { IfOk result (λ ops. Reads text.now (Ok ops.items)) }
     ensures refused { IfErr result (Refuses text.now) }
 {
-    let rest = after_frame(text)?;
-    let (ops, rest) = ops_in(alloc, rest)?;
+    let (over, rest) = after_frame(text)?;
+    let (ops, rest) = ops_in(alloc, over, rest)?;
     let line = ops.len() as u32 + 7;
+    if !are_due(over, ops.as_slice()) {
+        return Err(CFault::Line { line });
+    }
     let Some(rest) = after(Part::Return, rest) else {
         return Err(CFault::Line { line });
     };
@@ -37,15 +40,26 @@ pub fn read_c(alloc: Global, text: &[u8]) -> Result<Vec<Op>, CFault>
     }
 }
 
-/// What follows the six lines before those of the accesses.
-fn after_frame(text: &[u8]) -> Result<&[u8], CFault>
-    ensures found { IfOk result (λ rest. text.now ≡ concat frame ++ rest.now) }
+/// Whether the names of the third line are due: those of over-drive only where an access awaits it.
+fn are_due(over: bool, ops: &[Op]) -> bool
+    ensures { result ≡ (not over || awaits_over ops.now) }
+{
+    !over || awaits_over(ops)
+}
+
+/// What follows the six lines before those of the accesses, and whether the third names the timeouts of over-drive.
+fn after_frame(text: &[u8]) -> Result<(bool, &[u8]), CFault>
+    ensures found { IfOk result (λ x. text.now ≡ concat (frame x.0) ++ x.1.now) }
     ensures refused { IfErr result (Refuses text.now) }
 {
+    let mut over = false;
     let mut rest = text;
     for place in 0..6 {
-        match after(frame_part(place), rest) {
-            Some(others) => rest = others,
+        match frame_line_at(over, place, rest) {
+            Some((names, others)) => {
+                over = names;
+                rest = others;
+            }
             None => {
                 return Err(CFault::Line {
                     line: place as u32 + 1,
@@ -53,16 +67,17 @@ fn after_frame(text: &[u8]) -> Result<&[u8], CFault>
             }
         }
     }
-    Ok(rest)
+    Ok((over, rest))
 }
 
-/// The accesses whose lines a text begins with, as many as there are, and what follows them.
-fn ops_in(alloc: Global, text: &[u8]) -> Result<(Vec<Op>, &[u8]), OutOfMemory>
-    ensures { IfOk result (λ x. TakesOps text.now x.0.items x.1.now) }
+/// The accesses whose lines a text begins with, as many as there are that the third line of the frame allows, and what
+/// follows them.
+fn ops_in(alloc: Global, over: bool, text: &[u8]) -> Result<(Vec<Op>, &[u8]), OutOfMemory>
+    ensures { IfOk result (λ x. TakesOps over text.now x.0.items x.1.now) }
 {
     let mut ops = Vec::new(alloc);
     let mut rest = text;
-    while let Some((op, others)) = op_at(rest) {
+    while let Some((op, others)) = op_within(over, rest) {
         ops.push(op)?;
         rest = others;
     }

@@ -4,9 +4,9 @@ ghost use Rattle.res_base.specs.Lists.{Each};
 ghost use Rattle.reg_map.specs.Registers.{IsRegister, address};
 ghost use Rattle.reg_machine.specs.declared.op.Op.TheVariants as op;
 ghost use Rattle.reg_machine.specs.Words.{IsOp};
-ghost use Rattle.c_print.specs.Text.{part_text, digits_1, digits_2, digits_4, digits_8, digit, number_after, count, await_end, op_line, frame, c_text_of};
+ghost use Rattle.c_print.specs.Text.{part_text, digits_1, digits_2, digits_4, digits_8, digit, number_after, count, await_end, op_line, awaits_over, frame, c_text_of};
 
-use crate::part::{Part, await_end, frame_part, text_of};
+use crate::part::{Part, await_end, awaits_over, frame_part, text_of};
 use reg_machine::{Op, Timeout};
 use reg_map::{Reg, addr};
 use res_base::{OutOfMemory, put_dec};
@@ -18,7 +18,7 @@ pub fn c_text(alloc: Global, ops: &[Op]) -> Result<Vec<u8>, OutOfMemory>
     ensures { IfOk result (λ text. text.items ≡ c_text_of ops.now) }
 {
     let mut out = Vec::new(alloc);
-    put_frame(&mut out)?;
+    put_frame(&mut out, awaits_over(ops))?;
     put_ops(alloc, &mut out, ops)?;
     put_part(&mut out, Part::Return)?;
     put_part(&mut out, Part::Close)?;
@@ -26,11 +26,11 @@ pub fn c_text(alloc: Global, ops: &[Op]) -> Result<Vec<u8>, OutOfMemory>
 }
 
 /// The six lines before those of the accesses.
-fn put_frame(out: &mut Vec<u8>) -> Result<(), OutOfMemory>
-    ensures { OnOk result (out.new.items ≡ out.old.items ++ concat frame) }
+fn put_frame(out: &mut Vec<u8>, over: bool) -> Result<(), OutOfMemory>
+    ensures { OnOk result (out.new.items ≡ out.old.items ++ concat (frame over)) }
 {
     for place in 0..6 {
-        put_part(out, frame_part(place))?;
+        put_part(out, frame_part(over, place))?;
     }
     Ok(())
 }

@@ -109,6 +109,7 @@ defaults = 0 ∷ 0 ∷ 1 ∷ 2 ∷ 16 ∷ 192 ∷ 4 ∷ 1 ∷ 1 ∷ 1 ∷ []
 -- the table for a, the number of a case modulo 13
 unfoldable pub table_for : ℕ → TableParts
 table_for a = record {
+  version = 1;
   names = codes "CASE" ∷ [];
   «package» = codes "CASE";
   pins = pins;
@@ -118,6 +119,7 @@ table_for a = record {
   ips = ip ∷ [];
   clock = clock;
   limits = limits;
+  over = None;
   scales = scales;
   flash = flash;
   defaults = defaults;

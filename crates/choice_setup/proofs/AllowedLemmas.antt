@@ -12,7 +12,7 @@ use Rattle.res_model.specs.Clock.{hclk_of}
 use Rattle.res_model.specs.Limits.{TestsTell}
 use Rattle.res_model.specs.Placement.{uses_at}
 use Rattle.res_model.specs.Power.{RowCovers, flash_rows, wait_of}
-use Rattle.res_model.specs.ClockValues.{ahb_dividers, apb_dividers, known_scales, pll_dividers}
+use Rattle.res_model.specs.ClockValues.{ahb_dividers, apb_dividers, known_steps, pll_dividers}
 use Rattle.res_model.specs.Valid.{AreDomains, IsValid}
 use Rattle.res_model.specs.declared.clock.ClockChoice.{ClockChoice}
 use Rattle.res_model.specs.declared.project.Signal.{Signal}
@@ -33,7 +33,7 @@ use Rattle.choice_setup.specs.SetUp.{place_of, places, setting_of, setup_at, set
 
 -- ---- the fields of the clocks
 
-module _ (p : ProblemParts) (agree : IsProblem p) (whole : p.first ≢ 0) (at : List ℕ) (choice : IsChoice p.shape at) (domains : AreDomains p.tables.clock) where
+module _ (p : ProblemParts) (agree : IsProblem p) (whole : p.first ≢ 0) (at : List ℕ) (choice : IsChoice p.shape at) (domains : AreDomains p.tables.version p.tables.clock) where
   -- a value of a list of the table is one of those that the form allows
   of : (these list : List ℕ) (v : ℕ) → Each (λ n. Member n these) list → Member v list → Member v these
   of these list v known m = each_in (λ n. Member n these) v list known m
@@ -57,11 +57,11 @@ module _ (p : ProblemParts) (agree : IsProblem p) (whole : p.first ≢ 0) (at : 
   unfolding clock_at clock_domains
   ppre2_of = of apb_dividers p.tables.clock.ppre2 (clock_value p.clock at 8) domains.ppre2.known (clock_of_domain p agree whole at choice 8 (omega arith))
 
-  vos_of : Member chosen.vos known_scales
+  vos_of : Member chosen.vos (known_steps p.tables.version)
   unfolding clock_at clock_domains
-  vos_of = of known_scales p.tables.clock.vos (clock_value p.clock at 9) domains.vos.known (clock_of_domain p agree whole at choice 9 (omega arith))
+  vos_of = of (known_steps p.tables.version) p.tables.clock.vos (clock_value p.clock at 9) domains.vos.known (clock_of_domain p agree whole at choice 9 (omega arith))
 
-  fields : HasFields (clock_at p.clock at)
+  fields : HasFields p.tables.version (clock_at p.clock at)
   fields = record { range = clock_in_range p agree whole at choice; hpre = hpre_of; p = p_of; ppre1 = ppre1_of; ppre2 = ppre2_of; vos = vos_of }
 
 -- ---- wait states
@@ -145,6 +145,7 @@ allowed p at whole m =
     let met = (meets_says p at m).clocks whole in
     let covered = tell.covered.0 (met 13) in
     record {
+      version = refl;
       hse = tell.hse.0 (met 3);
       vco_in = tell.vco_in.0 (met 4);
       vco = tell.vco.0 (met 5);
@@ -152,6 +153,7 @@ allowed p at whole m =
       scale = tell.scale.0 (met 7);
       pclk1 = tell.pclk1.0 (met 8);
       pclk2 = tell.pclk2.0 (met 9);
+      over = tell.over.0 (met 17);
       row = row_of p.tables p.facts.vdd (hclk_of p.facts (clock_at p.clock at)) (wait_of p.tables p.facts.vdd (hclk_of p.facts (clock_at p.clock at))) refl covered.0 covered.1;
       prefetch = refl;
     }

@@ -57,6 +57,7 @@ wait_states p c = unwrap_or (wait_of p.tables p.facts.vdd (hclk_of p.facts c)) 0
 
 unfoldable pub setting_of : ProblemParts → List ℕ → Setting
 setting_of p at = record {
+  version = p.tables.version;
   facts = p.facts;
   clock = clock_at p.clock at;
   wait = wait_states p (clock_at p.clock at);

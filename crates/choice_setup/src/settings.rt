@@ -56,6 +56,7 @@ pub fn setting_of(p: &Problem, at: &[u16]) -> Setting
     let parts = p.parts();
     let clock = clock_of(p, at);
     Setting {
+        version: parts.tables.version(),
         facts: parts.facts,
         clock,
         wait: wait_states(p, &clock),

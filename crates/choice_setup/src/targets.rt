@@ -10,7 +10,7 @@ use problem::Problem;
 use reg_machine::Target;
 use res_model::{ClockChoice, Src};
 
-/// A target asks for facts and pins alone, so HSI as it is stands for any clocks: a problem of pins alone has none.
+/// A target asks for facts and pins alone, so HSI as it is stands for any clocks, and a table of version 1 for any: a problem of pins alone has none.
 const ANY_CLOCKS: ClockChoice = ClockChoice {
     src: Src::Hsi,
     psrc: Src::Hsi,
@@ -32,6 +32,7 @@ pub fn target(p: &Problem, at: &[u16]) -> Target
     ensures { result ≡ target_of (setting_of p.now at.now) }
 {
     init_gen::target(&Setting {
+        version: 1,
         facts: p.parts().facts,
         clock: ANY_CLOCKS,
         wait: 0,

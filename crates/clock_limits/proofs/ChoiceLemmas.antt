@@ -7,7 +7,8 @@ use Rattle.res_model.specs.declared.clock.Nodes.{Nodes}
 use Rattle.res_model.specs.declared.table.TableParts.{TableParts}
 use Rattle.res_model.specs.Clock.{AreFacts, is_pll, hse_used, pll_used, where_used, nodes_of, vco_in_of, vco_of, clk48_of}
 use Rattle.res_model.specs.Limits.{where_so, are_within, is_equal, is_as_wished, is_fed, mhz_48, limits_of}
-use Rattle.res_model.specs.Power.{is_covered, scale_limit, is_within_max}
+use Rattle.res_model.specs.ClockValues.{has_over}
+use Rattle.res_model.specs.Power.{is_covered, speeds_at, scale_limit, is_within_max}
 use Rattle.clock_limits.specs.Numbered.{within_where_there, exactly_where_there, most_where_there}
 
 within_is : (bounds : ℕ × ℕ) (used : Bool) (x : Fraction) → within_where_there bounds (where_used used x) ≡ where_so used (are_within bounds x)
@@ -31,10 +32,10 @@ by_nodes t f c n =
     (3, where_so (hse_used f c) (is_fed t f))
     ∷ (4, within_where_there t.limits.vco_in n.vco_in)
     ∷ (5, within_where_there t.limits.vco n.vco)
-    ∷ (6, at_most n.sysclk (whole t.limits.sysclk))
+    ∷ (6, at_most n.sysclk (whole (speeds_at t c.vos).sysclk))
     ∷ (7, is_within_max n.hclk (scale_limit t c.vos))
-    ∷ (8, at_most n.pclk1 (whole t.limits.pclk1))
-    ∷ (9, at_most n.pclk2 (whole t.limits.pclk2))
+    ∷ (8, at_most n.pclk1 (whole (speeds_at t c.vos).pclk1))
+    ∷ (9, at_most n.pclk2 (whole (speeds_at t c.vos).pclk2))
     ∷ (10, where_so f.exact48 (exactly_where_there n.clk48))
     ∷ (11, where_so f.most48 (most_where_there n.clk48))
     ∷ (12, at_most (whole f.floor) n.hclk)
@@ -42,6 +43,7 @@ by_nodes t f c n =
     ∷ (14, is_as_wished f.hclk n.hclk)
     ∷ (15, is_as_wished f.pclk1 n.pclk1)
     ∷ (16, is_as_wished f.pclk2 n.pclk2)
+    ∷ (17, where_so (has_over c.vos) (pll_used f c))
     ∷ []
 
 pub by_nodes_of : (t : TableParts) (f : Facts) (c : ClockChoice) → AreFacts f → by_nodes t f c (nodes_of f c) ≡ limits_of t f c

@@ -11,7 +11,7 @@ use Rattle.clock_limits.specs.Laws.{IsLeastBroken, BrokenIsLeast, ShownIsLeast}
 -- numbers that ascend from a least one
 abbrev Ascends : ℕ → List (ℕ × Bool) → Type 0
 Ascends low [] = Unit {0}
-Ascends low (e ∷ es) = (low ≤ e.0) × (e.0 ≤ 16) × Ascends (e.0 + 1) es
+Ascends low (e ∷ es) = (low ≤ e.0) × (e.0 ≤ 17) × Ascends (e.0 + 1) es
 
 -- no limit has a number below the least
 met_below : (low : ℕ) (es : List (ℕ × Bool)) (j : ℕ) → Ascends low es → j < low → is_met j es ≡ true
@@ -24,7 +24,7 @@ met_below low (e ∷ es) j up below =
 
 abbrev First : ℕ → List (ℕ × Bool) → Option ℕ → Type 0
 First low es None = (j : ℕ) → is_met j es ≡ true
-First low es (Some k) = (low ≤ k) × (k ≤ 16) × (is_met k es ≡ false) × ((j : ℕ) → j < k → is_met j es ≡ true)
+First low es (Some k) = (low ≤ k) × (k ≤ 17) × (is_met k es ≡ false) × ((j : ℕ) → j < k → is_met j es ≡ true)
 
 met_more : (e : ℕ × Bool) (es : List (ℕ × Bool)) (j : ℕ) → e.1 ≡ true → is_met j es ≡ true → is_met j (e ∷ es) ≡ true
 met_more e es j met more = elim (eqb_tells e.0 j) [ inl y ↦ rw y.0 met | inr n ↦ rw n.0 more ]
@@ -54,11 +54,11 @@ least_of_first es (Some k) first = ((first.0, first.1), first.2, first.3)
 
 choice_tests : (t : TableParts) (f : Facts) (c : ClockChoice) → Ascends 3 (limits_of t f c)
 unfolding limits_of
-choice_tests t f c = (omega arith, omega arith, (omega arith, omega arith, (omega arith, omega arith, (omega arith, omega arith, (omega arith, omega arith, (omega arith, omega arith, (omega arith, omega arith, (omega arith, omega arith, (omega arith, omega arith, (omega arith, omega arith, (omega arith, omega arith, (omega arith, omega arith, (omega arith, omega arith, (omega arith, omega arith, tt))))))))))))))
+choice_tests t f c = (omega arith, omega arith, (omega arith, omega arith, (omega arith, omega arith, (omega arith, omega arith, (omega arith, omega arith, (omega arith, omega arith, (omega arith, omega arith, (omega arith, omega arith, (omega arith, omega arith, (omega arith, omega arith, (omega arith, omega arith, (omega arith, omega arith, (omega arith, omega arith, (omega arith, omega arith, (omega arith, omega arith, tt)))))))))))))))
 
 box_tests : (t : TableParts) (f : Facts) (a : Allowed) → Ascends 3 (limits_over t f a)
 unfolding limits_over
-box_tests t f a = (omega arith, omega arith, (omega arith, omega arith, (omega arith, omega arith, (omega arith, omega arith, (omega arith, omega arith, (omega arith, omega arith, (omega arith, omega arith, (omega arith, omega arith, (omega arith, omega arith, (omega arith, omega arith, (omega arith, omega arith, (omega arith, omega arith, (omega arith, omega arith, (omega arith, omega arith, tt))))))))))))))
+box_tests t f a = (omega arith, omega arith, (omega arith, omega arith, (omega arith, omega arith, (omega arith, omega arith, (omega arith, omega arith, (omega arith, omega arith, (omega arith, omega arith, (omega arith, omega arith, (omega arith, omega arith, (omega arith, omega arith, (omega arith, omega arith, (omega arith, omega arith, (omega arith, omega arith, (omega arith, omega arith, (omega arith, omega arith, tt)))))))))))))))
 
 pub broken_is_least : BrokenIsLeast
 broken_is_least t f c = least_of_first (limits_of t f c) (broken_limit t f c) (first_of 3 (limits_of t f c) (choice_tests t f c))

@@ -9,7 +9,8 @@ use Rattle.res_model.specs.declared.clock.Facts.{Facts}
 use Rattle.res_model.specs.declared.table.TableParts.{TableParts}
 use Rattle.res_model.specs.Clock.{IsBetween, hse_used, pll_used, vco_in_of, vco_of, clk48_of, sysclk_of, hclk_of, pclk1_of, pclk2_of}
 use Rattle.res_model.specs.Limits.{TestsTell, hse_bounds, AreWithin, IsWithinMax, IsAsWished, where_so, are_within, is_equal, is_as_wished, is_fed, mhz_48, limits_of}
-use Rattle.res_model.specs.Power.{flash_rows, is_covered_by, is_covered, RowCovers, scale_limit, is_within_max}
+use Rattle.res_model.specs.ClockValues.{has_over}
+use Rattle.res_model.specs.Power.{flash_rows, is_covered_by, is_covered, RowCovers, speeds_at, scale_limit, is_within_max}
 use Rattle.clock_limits.proofs.FractionLemmas.{test_of, fact_of, and_left, and_right, both}
 
 at_most_says : (x y : Fraction) → IsTrue (at_most x y) ↔ IsAtMost x y
@@ -84,10 +85,10 @@ tests_tell t f c = record {
   hse = where_says (hse_used f c) (is_fed t f) (fed_says t f);
   vco_in = where_says (pll_used f c) (are_within t.limits.vco_in (vco_in_of f c)) (within_says t.limits.vco_in (vco_in_of f c));
   vco = where_says (pll_used f c) (are_within t.limits.vco (vco_of f c)) (within_says t.limits.vco (vco_of f c));
-  sysclk = at_most_says (sysclk_of f c) (whole t.limits.sysclk);
+  sysclk = at_most_says (sysclk_of f c) (whole (speeds_at t c.vos).sysclk);
   scale = max_says (scale_limit t c.vos) (hclk_of f c);
-  pclk1 = at_most_says (pclk1_of f c) (whole t.limits.pclk1);
-  pclk2 = at_most_says (pclk2_of f c) (whole t.limits.pclk2);
+  pclk1 = at_most_says (pclk1_of f c) (whole (speeds_at t c.vos).pclk1);
+  pclk2 = at_most_says (pclk2_of f c) (whole (speeds_at t c.vos).pclk2);
   exact48 = where_says f.exact48 (is_equal (clk48_of f c) (whole mhz_48)) (equal_says (clk48_of f c) (whole mhz_48));
   most48 = where_says f.most48 (at_most (clk48_of f c) (whole mhz_48)) (at_most_says (clk48_of f c) (whole mhz_48));
   floor = at_most_says (whole f.floor) (hclk_of f c);
@@ -95,4 +96,5 @@ tests_tell t f c = record {
   hclk_wish = wished_says f.hclk (hclk_of f c);
   pclk1_wish = wished_says f.pclk1 (pclk1_of f c);
   pclk2_wish = wished_says f.pclk2 (pclk2_of f c);
+  over = where_says (has_over c.vos) (pll_used f c) (λ e. e, λ h. h);
 }

@@ -12,8 +12,9 @@ use Rattle.res_model.specs.declared.clock.Src.TheVariants.{Hsi, Hse, Pll}
 use Rattle.res_model.specs.declared.table.TableParts.{TableParts}
 use Rattle.res_model.specs.Clock.{is_hse, is_pll, pll_used, hse_used, vco_in_of, vco_of, clk48_of, sysclk_of, hclk_of, pclk1_of, pclk2_of}
 use Rattle.res_model.specs.Limits.{where_so, are_within, is_equal, is_as_wished, is_fed, mhz_48, limits_of, is_met, meets_limit}
-use Rattle.res_model.specs.Power.{flash_rows, is_covered_by, scale_limit, is_within_max}
-use Rattle.clock_limits.specs.Ranges.{Allowed, allowed, IsAllowed, IsWithin, code_of, sure_pll, sure_hse, overlaps, has, has_wish, vco_in_range, vco_range, clk48_range, sysclk_range, hclk_reach, hclk_range, pclk1_range, pclk2_range, limits_over, stands_alone}
+use Rattle.res_model.specs.ClockValues.{has_over}
+use Rattle.res_model.specs.Power.{flash_rows, is_covered_by, speeds_at, scale_limit, is_within_max}
+use Rattle.clock_limits.specs.Ranges.{Allowed, allowed, IsAllowed, IsWithin, code_of, sure_pll, sure_hse, sure_over, may_pll, overlaps, has, has_wish, vco_in_range, vco_range, clk48_range, sysclk_range, hclk_reach, hclk_range, pclk1_range, pclk2_range, limits_over, stands_alone}
 use Rattle.clock_limits.specs.Fair.{IsFair}
 use Rattle.clock_limits.specs.Laws.{ShownIsBroken, ShownAloneIsBroken}
 use Rattle.clock_limits.proofs.FairLemmas.{box_is_fair}
@@ -108,6 +109,22 @@ hse_is_used f a c is e =
     (is_hse_code c.psrc (all_member (λ s. nat_eq s 1) a.psrc (code_of c.psrc) (and_right (sure_pll f a) (list_all (λ s. nat_eq s 1) a.psrc) pll) is.psrc))))
     (or_cases (list_all (λ s. nat_eq s 1) a.src) (sure_pll f a && list_all (λ s. nat_eq s 1) a.psrc) e)
 
+pll_code : (s : Src) → is_pll s ≡ true → nat_eq (code_of s) 2 ≡ true
+pll_code Hsi e = absurd (cc)
+pll_code Hse e = absurd (cc)
+pll_code Pll e = refl
+
+-- a PLL that is used may be, and over-drive that is sure is on
+pll_may : (f : Facts) (a : Allowed) (c : ClockChoice) → IsAllowed c a → pll_used f c ≡ true → may_pll f a ≡ true
+pll_may f a c is e =
+    ⊎_elim
+    (λ src. or_left (list_any (λ s. nat_eq s 2) a.src) f.need48 (any_member (λ s. nat_eq s 2) a.src (code_of c.src) is.src (pll_code c.src src)))
+    (λ need. or_right (list_any (λ s. nat_eq s 2) a.src) f.need48 need)
+    (or_cases (is_pll c.src) f.need48 e)
+
+over_is_on : (a : Allowed) (c : ClockChoice) → IsAllowed c a → sure_over a ≡ true → has_over c.vos ≡ true
+over_is_on a c is e = all_member has_over a.vos c.vos e is.vos
+
 where_sure : (sure used m r : Bool) → (sure ≡ true → used ≡ true) → (m ≡ true → r ≡ true) → where_so used m ≡ true → where_so sure r ≡ true
 where_sure false used m r f g e = refl
 where_sure true false m r f g e = let x = f refl in absurd (cc)
@@ -156,16 +173,16 @@ along only t f a c fair is wish =
           λ o e. where_sure (sure_pll f a) (pll_used f c) (are_within t.limits.vco (vco_of f c)) (overlaps t.limits.vco (vco_range f a)) (pll_is_used f a c is) (within_overlaps t.limits.vco (vco_range f a) (vco_of f c) p.vco (vco_within f a c is)) e,
           (
             refl,
-            λ o e. from_below (sysclk_range f a).least (sysclk_of f c) (whole t.limits.sysclk) p.sysclk (sysclk_within f a c fair is).above e,
+            λ o e. any_member (λ step. at_most (sysclk_range f a).least (whole (speeds_at t step).sysclk)) a.vos c.vos is.vos (from_below (sysclk_range f a).least (sysclk_of f c) (whole (speeds_at t c.vos).sysclk) p.sysclk (sysclk_within f a c fair is).above e),
             (
               refl,
               λ o e. any_member (λ vos. is_within_max (hclk_range f a).least (scale_limit t vos)) a.vos c.vos is.vos (max_below (scale_limit t c.vos) (hclk_range f a).least (hclk_of f c) p.hclk (hclk_within f a c fair is (wished 7 refl o)).above e),
               (
                 refl,
-                λ o e. from_below (pclk1_range f a).least (pclk1_of f c) (whole t.limits.pclk1) p.pclk1 (pclk1_within f a c fair is (wished 8 refl o)).above e,
+                λ o e. any_member (λ step. at_most (pclk1_range f a).least (whole (speeds_at t step).pclk1)) a.vos c.vos is.vos (from_below (pclk1_range f a).least (pclk1_of f c) (whole (speeds_at t c.vos).pclk1) p.pclk1 (pclk1_within f a c fair is (wished 8 refl o)).above e),
                 (
                   refl,
-                  λ o e. from_below (pclk2_range f a).least (pclk2_of f c) (whole t.limits.pclk2) p.pclk2 (pclk2_within f a c fair is (wished 9 refl o)).above e,
+                  λ o e. any_member (λ step. at_most (pclk2_range f a).least (whole (speeds_at t step).pclk2)) a.vos c.vos is.vos (from_below (pclk2_range f a).least (pclk2_of f c) (whole (speeds_at t c.vos).pclk2) p.pclk2 (pclk2_within f a c fair is (wished 9 refl o)).above e),
                   (
                     refl,
                     λ o e. where_sure f.exact48 f.exact48 (is_equal (clk48_of f c) (whole mhz_48)) (has (clk48_range f a) (whole mhz_48)) (λ x. x) (equal_has (clk48_range f a) (clk48_of f c) (whole mhz_48) p.clk48 (clk48_within f a c is)) e,
@@ -187,7 +204,7 @@ along only t f a c fair is wish =
                               (
                                 refl,
                                 λ o e. wished_has f.pclk2 (pclk2_range f a) (pclk2_of f c) p.pclk2 (pclk2_within f a c fair is (wished 16 refl o)) e,
-                                tt,
+                                (refl, λ o e. where_sure (sure_over a) (has_over c.vos) (pll_used f c) (may_pll f a) (over_is_on a c is) (pll_may f a c is) e, tt),
                               ),
                             ),
                           ),

@@ -4,7 +4,7 @@ use Rattle.std.specs.List.{list_any}
 use Rattle.res_base.specs.Fraction.{Fraction, IsAtMost, at_most, whole, over}
 use Rattle.res_base.specs.Lists.{Member}
 use Rattle.res_base.proofs.ListLemmas.{member_one}
-use Rattle.res_model.specs.ClockValues.{hsi}
+use Rattle.res_model.specs.ClockValues.{has_over, hsi}
 use Rattle.res_model.specs.declared.clock.ClockBox.{ClockBox}
 use Rattle.res_model.specs.declared.clock.ClockChoice.{ClockChoice}
 use Rattle.res_model.specs.declared.clock.Facts.{Facts}
@@ -14,8 +14,8 @@ use Rattle.res_model.specs.declared.clock.Src.TheVariants.{Hsi, Hse, Pll}
 use Rattle.res_model.specs.declared.table.TableParts.{TableParts}
 use Rattle.res_model.specs.Clock.{output, is_hse, is_pll, pll_used, hse_used, pll_input, vco_in_of, vco_of, system_output_of, clk48_of, sysclk_of, hclk_of, pclk1_of, pclk2_of}
 use Rattle.res_model.specs.Limits.{where_so, are_within, is_equal, is_as_wished, is_fed, mhz_48, limits_of, first_broken}
-use Rattle.res_model.specs.Power.{flash_rows, is_covered_by, is_covered, scale_limit, is_within_max}
-use Rattle.clock_limits.specs.Ranges.{IsClockBox, IsOnePlace, IsRun, Allowed, allowed, IsIn, code_of, run_of, values_at, exactly, divided, multiplied, output_range, sure_pll, sure_hse, overlaps, has, has_wish, narrowed, input_range, vco_in_range, vco_range, system_output_range, clk48_range, sysclk_range, hclk_reach, hclk_range, pclk1_range, pclk2_range, limits_over}
+use Rattle.res_model.specs.Power.{flash_rows, is_covered_by, is_covered, speeds_at, scale_limit, is_within_max}
+use Rattle.clock_limits.specs.Ranges.{IsClockBox, IsOnePlace, IsRun, Allowed, allowed, IsIn, code_of, run_of, values_at, exactly, divided, multiplied, output_range, sure_pll, sure_hse, sure_over, may_pll, overlaps, has, has_wish, narrowed, input_range, vco_in_range, vco_range, system_output_range, clk48_range, sysclk_range, hclk_reach, hclk_range, pclk1_range, pclk2_range, limits_over}
 use Rattle.std.proofs.lemmas.Nat.{mul-le}
 use Rattle.clock_limits.specs.Fair.{IsSpread}
 use Rattle.clock_limits.proofs.SpreadLemmas.{least_each}
@@ -167,9 +167,15 @@ sure_pll_one f c = cc (and_true (nat_eq (code_of c.src) 2), pll_code c.src)
 sure_hse_one : (f : Facts) (c : ClockChoice) → sure_hse f (values_of c) ≡ hse_used f c
 sure_hse_one f c = cc (and_true (nat_eq (code_of c.src) 1), hse_code c.src, and_true (nat_eq (code_of c.psrc) 1), hse_code c.psrc, sure_pll_one f c)
 
+sure_over_one : (c : ClockChoice) → sure_over (values_of c) ≡ has_over c.vos
+sure_over_one c = and_true (has_over c.vos)
+
+may_pll_one : (f : Facts) (c : ClockChoice) → may_pll f (values_of c) ≡ pll_used f c
+may_pll_one f c = cc (or_false (nat_eq (code_of c.src) 2), pll_code c.src)
+
 -- ---- all limits
-same_limits : (a b c d e f g h i j k l m n a' b' c' d' e' f' g' h' i' j' k' l' m' n' : Bool) → a ≡ a' → b ≡ b' → c ≡ c' → d ≡ d' → e ≡ e' → f ≡ f' → g ≡ g' → h ≡ h' → i ≡ i' → j ≡ j' → k ≡ k' → l ≡ l' → m ≡ m' → n ≡ n' → ◌≡◌ {A = List (ℕ × Bool)} ((3, a) ∷ (4, b) ∷ (5, c) ∷ (6, d) ∷ (7, e) ∷ (8, f) ∷ (9, g) ∷ (10, h) ∷ (11, i) ∷ (12, j) ∷ (13, k) ∷ (14, l) ∷ (15, m) ∷ (16, n) ∷ []) ((3, a') ∷ (4, b') ∷ (5, c') ∷ (6, d') ∷ (7, e') ∷ (8, f') ∷ (9, g') ∷ (10, h') ∷ (11, i') ∷ (12, j') ∷ (13, k') ∷ (14, l') ∷ (15, m') ∷ (16, n') ∷ [])
-same_limits a b c d e f g h i j k l m n a' b' c' d' e' f' g' h' i' j' k' l' m' n' p q r s t u v w x y z o1 o2 o3 = cc
+same_limits : (a b c d e f g h i j k l m n o a' b' c' d' e' f' g' h' i' j' k' l' m' n' o' : Bool) → a ≡ a' → b ≡ b' → c ≡ c' → d ≡ d' → e ≡ e' → f ≡ f' → g ≡ g' → h ≡ h' → i ≡ i' → j ≡ j' → k ≡ k' → l ≡ l' → m ≡ m' → n ≡ n' → o ≡ o' → ◌≡◌ {A = List (ℕ × Bool)} ((3, a) ∷ (4, b) ∷ (5, c) ∷ (6, d) ∷ (7, e) ∷ (8, f) ∷ (9, g) ∷ (10, h) ∷ (11, i) ∷ (12, j) ∷ (13, k) ∷ (14, l) ∷ (15, m) ∷ (16, n) ∷ (17, o) ∷ []) ((3, a') ∷ (4, b') ∷ (5, c') ∷ (6, d') ∷ (7, e') ∷ (8, f') ∷ (9, g') ∷ (10, h') ∷ (11, i') ∷ (12, j') ∷ (13, k') ∷ (14, l') ∷ (15, m') ∷ (16, n') ∷ (17, o') ∷ [])
+same_limits a b c d e f g h i j k l m n o a' b' c' d' e' f' g' h' i' j' k' l' m' n' o' p q r s t u v w x y z o1 o2 o3 o4 = cc
 
 product_some : (a b : ℕ) → 0 < a → 0 < b → 0 < a * b
 product_some a b p q = omega (arith, mul-le 1 1 a b p q)
@@ -185,10 +191,10 @@ limits_one t f c p d1 d2 =
     (where_so (sure_hse f a) (is_fed t f))
     (where_so (sure_pll f a) (overlaps t.limits.vco_in (vco_in_range f a)))
     (where_so (sure_pll f a) (overlaps t.limits.vco (vco_range f a)))
-    (at_most (sysclk_range f a).least (whole t.limits.sysclk))
+    (at_most (sysclk_range f a).least (whole (speeds_at t c.vos).sysclk) || false)
     (is_within_max (hclk_range f a).least (scale_limit t c.vos) || false)
-    (at_most (pclk1_range f a).least (whole t.limits.pclk1))
-    (at_most (pclk2_range f a).least (whole t.limits.pclk2))
+    (at_most (pclk1_range f a).least (whole (speeds_at t c.vos).pclk1) || false)
+    (at_most (pclk2_range f a).least (whole (speeds_at t c.vos).pclk2) || false)
     (where_so f.exact48 (has (clk48_range f a) (whole mhz_48)))
     (where_so f.most48 (at_most (clk48_range f a).least (whole mhz_48)))
     (at_most (whole f.floor) (hclk_range f a).most)
@@ -196,13 +202,14 @@ limits_one t f c p d1 d2 =
     (has_wish f.hclk (hclk_reach f a))
     (has_wish f.pclk1 (pclk1_range f a))
     (has_wish f.pclk2 (pclk2_range f a))
+    (where_so (sure_over a) (may_pll f a))
     (where_so (hse_used f c) (is_fed t f))
     (where_so (pll_used f c) (are_within t.limits.vco_in (vco_in_of f c)))
     (where_so (pll_used f c) (are_within t.limits.vco (vco_of f c)))
-    (at_most (sysclk_of f c) (whole t.limits.sysclk))
+    (at_most (sysclk_of f c) (whole (speeds_at t c.vos).sysclk))
     (is_within_max (hclk_of f c) (scale_limit t c.vos))
-    (at_most (pclk1_of f c) (whole t.limits.pclk1))
-    (at_most (pclk2_of f c) (whole t.limits.pclk2))
+    (at_most (pclk1_of f c) (whole (speeds_at t c.vos).pclk1))
+    (at_most (pclk2_of f c) (whole (speeds_at t c.vos).pclk2))
     (where_so f.exact48 (is_equal (clk48_of f c) (whole mhz_48)))
     (where_so f.most48 (at_most (clk48_of f c) (whole mhz_48)))
     (at_most (whole f.floor) (hclk_of f c))
@@ -210,13 +217,14 @@ limits_one t f c p d1 d2 =
     (is_as_wished f.hclk (hclk_of f c))
     (is_as_wished f.pclk1 (pclk1_of f c))
     (is_as_wished f.pclk2 (pclk2_of f c))
+    (where_so (has_over c.vos) (pll_used f c))
     (ap (λ (u : Bool). where_so u (is_fed t f)) (sure_hse_one f c))
     (ap (λ (u : Bool). where_so u (overlaps t.limits.vco_in (vco_in_range f a))) (sure_pll_one f c) ∙ ap (λ (r : Range). where_so (pll_used f c) (overlaps t.limits.vco_in r)) (vco_in_one f c))
     (ap (λ (u : Bool). where_so u (overlaps t.limits.vco (vco_range f a))) (sure_pll_one f c) ∙ ap (λ (r : Range). where_so (pll_used f c) (overlaps t.limits.vco r)) (vco_one f c))
-    (ap (λ (r : Range). at_most r.least (whole t.limits.sysclk)) (sysclk_one f c))
+    (or_false (at_most (sysclk_range f a).least (whole (speeds_at t c.vos).sysclk)) ∙ ap (λ (r : Range). at_most r.least (whole (speeds_at t c.vos).sysclk)) (sysclk_one f c))
     (or_false (is_within_max (hclk_range f a).least (scale_limit t c.vos)) ∙ max_test (scale_limit t c.vos) (hclk_range f a) (hclk_of f c) p.hclk same)
-    (least_test (pclk1_range f a) (pclk1_of f c) (whole t.limits.pclk1) p.pclk1 same1)
-    (least_test (pclk2_range f a) (pclk2_of f c) (whole t.limits.pclk2) p.pclk2 same2)
+    (or_false (at_most (pclk1_range f a).least (whole (speeds_at t c.vos).pclk1)) ∙ least_test (pclk1_range f a) (pclk1_of f c) (whole (speeds_at t c.vos).pclk1) p.pclk1 same1)
+    (or_false (at_most (pclk2_range f a).least (whole (speeds_at t c.vos).pclk2)) ∙ least_test (pclk2_range f a) (pclk2_of f c) (whole (speeds_at t c.vos).pclk2) p.pclk2 same2)
     (ap (λ (r : Range). where_so f.exact48 (has r (whole mhz_48))) (clk48_one f c))
     (ap (λ (r : Range). where_so f.most48 (at_most r.least (whole mhz_48))) (clk48_one f c))
     (most_test (hclk_range f a) (hclk_of f c) (whole f.floor) p.hclk same)
@@ -224,6 +232,7 @@ limits_one t f c p d1 d2 =
     (ap (λ (r : Range). has_wish f.hclk r) (reach_one f c) ∙ wish_test f.hclk (exactly (hclk_of f c)) (hclk_of f c) p.hclk (narrowed_same None (hclk_of f c) p.hclk))
     (wish_test f.pclk1 (pclk1_range f a) (pclk1_of f c) p.pclk1 same1)
     (wish_test f.pclk2 (pclk2_range f a) (pclk2_of f c) p.pclk2 same2)
+    (ap (λ (u : Bool). where_so u (may_pll f a)) (sure_over_one c) ∙ ap (λ (u : Bool). where_so (has_over c.vos) u) (may_pll_one f c))
 
 pub one_choice_is_exact : OneChoiceIsExact
 one_choice_is_exact t f values b in_range is_box one c is =

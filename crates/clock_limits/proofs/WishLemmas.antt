@@ -7,9 +7,9 @@ use Rattle.res_model.specs.declared.clock.Facts.{Facts}
 use Rattle.res_model.specs.declared.clock.Range.{Range}
 use Rattle.res_model.specs.declared.table.TableParts.{TableParts}
 use Rattle.res_model.specs.Limits.{IsWithinMax, is_met}
-use Rattle.res_model.specs.Power.{RowCovers, is_covered, scale_limit, is_within_max}
+use Rattle.res_model.specs.Power.{RowCovers, is_covered, speeds_at, scale_limit, is_within_max}
 use Rattle.clock_limits.specs.Laws.{IsShownOf, WishOutOfReachIsShown, WishNarrows}
-use Rattle.clock_limits.specs.Ranges.{Allowed, allowed, IsWithin, exactly, narrowed, has, has_wish, divided, least_of, greatest_of, hclk_reach, hclk_range, limits_over}
+use Rattle.clock_limits.specs.Ranges.{Allowed, allowed, IsWithin, some_pclk1, some_pclk2, exactly, narrowed, has, has_wish, divided, least_of, greatest_of, hclk_reach, hclk_range, limits_over}
 use Rattle.clock_limits.proofs.FractionLemmas.{fact_of, and_left, and_right}
 use Rattle.clock_limits.proofs.SayLemmas.{max_says, covered_says}
 
@@ -89,8 +89,8 @@ judged t f a wish is met =
     let same : r ≡ exactly (whole wish) = narrows f.hclk (hclk_reach f a) wish is met in
     record {
       scale = λ h. shown (list_any (λ v. is_within_max r.least (scale_limit t v)) a.vos) (no_scale t wish r a.vos same h);
-      pclk1 = λ h. shown (at_most (divided r a.ppre1).least (whole t.limits.pclk1)) (too_fast t.limits.pclk1 wish a.ppre1 r same h);
-      pclk2 = λ h. shown (at_most (divided r a.ppre2).least (whole t.limits.pclk2)) (too_fast t.limits.pclk2 wish a.ppre2 r same h);
+      pclk1 = λ h. shown (some_pclk1 t (divided r a.ppre1).least a.vos) (none_passes (λ v. at_most (divided r a.ppre1).least (whole (speeds_at t v).pclk1)) a.vos (λ v m. too_fast (speeds_at t v).pclk1 wish a.ppre1 r same (h v m)));
+      pclk2 = λ h. shown (some_pclk2 t (divided r a.ppre2).least a.vos) (none_passes (λ v. at_most (divided r a.ppre2).least (whole (speeds_at t v).pclk2)) a.vos (λ v m. too_fast (speeds_at t v).pclk2 wish a.ppre2 r same (h v m)));
       floor = λ h. shown (at_most (whole f.floor) r.most) (too_slow f.floor wish r same h);
       row = λ h. shown (is_covered t f.vdd r.least) (no_row t f.vdd wish r same h);
       wish1 = λ w e h. shown (has_wish f.pclk1 (divided r a.ppre1)) (λ x. not_as_wished w wish a.ppre1 r same h (had f.pclk1 (divided r a.ppre1) w e x));

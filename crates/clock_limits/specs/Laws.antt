@@ -8,7 +8,7 @@ use Rattle.res_model.specs.declared.clock.Facts.{Facts}
 use Rattle.res_model.specs.declared.table.TableParts.{TableParts}
 use Rattle.res_model.specs.Clock.{IsBetween}
 use Rattle.res_model.specs.Limits.{TestsTell, IsWithinMax, meets_limit, broken_limit}
-use Rattle.res_model.specs.Power.{RowCovers, scale_limit}
+use Rattle.res_model.specs.Power.{RowCovers, speeds_at, scale_limit}
 use Rattle.clock_limits.specs.Ranges.{Allowed, AreInRange, IsClockBox, IsIn, IsOnePlace, IsWithin, allowed, greatest_of, hclk_reach, least_of, shows_limit, shown_limit, stands_alone}
 
 -- a limit that is shown for a box is broken by each choice in it, or the wish for HCLK is
@@ -36,7 +36,7 @@ TestsAreRight = (t : TableParts) (f : Facts) (c : ClockChoice) → TestsTell t f
 -- where no limit is broken each is met; else the least that is broken is not met, and each below it is
 abbrev pub IsLeastBroken : (ℕ → Bool) → Option ℕ → Type 0
 IsLeastBroken met None = (j : ℕ) → met j ≡ true
-IsLeastBroken met (Some k) = IsBetween 3 16 k × (met k ≡ false) × ((j : ℕ) → j < k → met j ≡ true)
+IsLeastBroken met (Some k) = IsBetween 3 17 k × (met k ≡ false) × ((j : ℕ) → j < k → met j ≡ true)
 
 abbrev pub BrokenIsLeast : Type 0
 BrokenIsLeast = (t : TableParts) (f : Facts) (c : ClockChoice) → IsLeastBroken (meets_limit t f c) (broken_limit t f c)
@@ -55,11 +55,11 @@ WishOutOfReachIsShown =
 
 -- what an HCLK of this many hertz breaks is shown, whatever else HCLK may be in the box
 pub record IsShownOf (t : TableParts) (f : Facts) (a : Allowed) (hclk : ℕ) (shows : ℕ → Bool) : Type 0 where
-  -- no scale of the box covers it
+  -- no power step of the box covers it
   pub scale : ((vos : ℕ) → Member vos a.vos → ¬ IsWithinMax (whole hclk) (scale_limit t vos)) → shows 7 ≡ true
-  -- it is too fast for a bus, by the greatest divider
-  pub pclk1 : t.limits.pclk1 * greatest_of a.ppre1 < hclk → shows 8 ≡ true
-  pub pclk2 : t.limits.pclk2 * greatest_of a.ppre2 < hclk → shows 9 ≡ true
+  -- it is too fast for a bus, by the greatest divider, at each power step of the box
+  pub pclk1 : ((vos : ℕ) → Member vos a.vos → (speeds_at t vos).pclk1 * greatest_of a.ppre1 < hclk) → shows 8 ≡ true
+  pub pclk2 : ((vos : ℕ) → Member vos a.vos → (speeds_at t vos).pclk2 * greatest_of a.ppre2 < hclk) → shows 9 ≡ true
   -- it is below the floor of the IPs in use
   pub floor : hclk < f.floor → shows 12 ≡ true
   -- no flash row covers it

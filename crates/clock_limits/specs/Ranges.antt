@@ -4,10 +4,10 @@ use Rattle.std.specs.Prelude.{◌≡◌, ℕ, ◌+◌, ◌<◌, ◌≤◌, ◌==
 use Rattle.std.specs.List.{list_all, list_any}
 use Rattle.res_base.specs.Fraction.{Fraction, IsAtMost, at_most, whole, times, over}
 use Rattle.res_base.specs.Lists.{Each, Member}
-use Rattle.res_model.specs.ClockValues.{hsi}
+use Rattle.res_model.specs.ClockValues.{has_over, hsi}
 use Rattle.res_model.specs.Clock.{IsBetween}
 use Rattle.res_model.specs.Limits.{where_so, is_fed, mhz_48, first_broken, is_met}
-use Rattle.res_model.specs.Power.{is_covered, scale_limit, is_within_max}
+use Rattle.res_model.specs.Power.{is_covered, speeds_at, scale_limit, is_within_max}
 use Rattle.res_model.specs.declared.clock.ClockBox.{ClockBox}
 use Rattle.res_model.specs.declared.clock.ClockChoice.{ClockChoice}
 use Rattle.res_model.specs.declared.clock.Facts.{Facts}
@@ -205,6 +205,23 @@ sure_pll f a = list_all (λ s. s == 2) a.src || f.need48
 abbrev pub sure_hse : Facts → Allowed → Bool
 sure_hse f a = list_all (λ s. s == 1) a.src || (sure_pll f a && list_all (λ s. s == 1) a.psrc)
 
+-- over-drive is on whatever is chosen, and the PLL is used for some choice
+abbrev pub sure_over : Allowed → Bool
+sure_over a = list_all has_over a.vos
+
+abbrev pub may_pll : Facts → Allowed → Bool
+may_pll f a = list_any (λ s. s == 2) a.src || f.need48
+
+-- some power step of the box has a limit of SYSCLK, of PCLK1, of PCLK2 that this frequency keeps
+abbrev pub some_sysclk : TableParts → Fraction → List ℕ → Bool
+some_sysclk t x steps = list_any (λ step. at_most x (whole (speeds_at t step).sysclk)) steps
+
+abbrev pub some_pclk1 : TableParts → Fraction → List ℕ → Bool
+some_pclk1 t x steps = list_any (λ step. at_most x (whole (speeds_at t step).pclk1)) steps
+
+abbrev pub some_pclk2 : TableParts → Fraction → List ℕ → Bool
+some_pclk2 t x steps = list_any (λ step. at_most x (whole (speeds_at t step).pclk2)) steps
+
 -- a range has a number within bounds
 abbrev pub overlaps : ℕ × ℕ → Range → Bool
 overlaps bounds r = at_most (whole bounds.0) r.most && at_most r.least (whole bounds.1)
@@ -219,10 +236,10 @@ limits_over t f a =
     (3, where_so (sure_hse f a) (is_fed t f))
     ∷ (4, where_so (sure_pll f a) (overlaps t.limits.vco_in (vco_in_range f a)))
     ∷ (5, where_so (sure_pll f a) (overlaps t.limits.vco (vco_range f a)))
-    ∷ (6, at_most (sysclk_range f a).least (whole t.limits.sysclk))
+    ∷ (6, some_sysclk t (sysclk_range f a).least a.vos)
     ∷ (7, list_any (λ vos. is_within_max (hclk_range f a).least (scale_limit t vos)) a.vos)
-    ∷ (8, at_most (pclk1_range f a).least (whole t.limits.pclk1))
-    ∷ (9, at_most (pclk2_range f a).least (whole t.limits.pclk2))
+    ∷ (8, some_pclk1 t (pclk1_range f a).least a.vos)
+    ∷ (9, some_pclk2 t (pclk2_range f a).least a.vos)
     ∷ (10, where_so f.exact48 (has (clk48_range f a) (whole mhz_48)))
     ∷ (11, where_so f.most48 (at_most (clk48_range f a).least (whole mhz_48)))
     ∷ (12, at_most (whole f.floor) (hclk_range f a).most)
@@ -230,6 +247,7 @@ limits_over t f a =
     ∷ (14, has_wish f.hclk (hclk_reach f a))
     ∷ (15, has_wish f.pclk1 (pclk1_range f a))
     ∷ (16, has_wish f.pclk2 (pclk2_range f a))
+    ∷ (17, where_so (sure_over a) (may_pll f a))
     ∷ []
 
 -- the limit of a number is shown for the box: its ranges leave no room for it
@@ -242,4 +260,4 @@ shown_limit t f values b = first_broken (limits_over t f (allowed values b))
 
 -- a limit whose range does not rest on the wish for HCLK
 abbrev pub stands_alone : ℕ → Bool
-stands_alone k = nat_le k 6 || (k == 10 || (k == 11 || k == 14))
+stands_alone k = nat_le k 6 || (k == 10 || (k == 11 || (k == 14 || k == 17)))

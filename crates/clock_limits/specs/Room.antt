@@ -7,7 +7,7 @@ use Rattle.res_model.specs.declared.clock.Range.{Range}
 use Rattle.res_model.specs.declared.table.TableParts.{TableParts}
 use Rattle.res_model.specs.Limits.{where_so, is_fed, mhz_48}
 use Rattle.res_model.specs.Power.{is_covered, scale_limit, is_within_max}
-use Rattle.clock_limits.specs.Ranges.{Allowed, sure_pll, sure_hse, overlaps, has, has_wish}
+use Rattle.clock_limits.specs.Ranges.{Allowed, sure_pll, sure_hse, sure_over, may_pll, some_sysclk, some_pclk1, some_pclk2, overlaps, has, has_wish}
 use Rattle.clock_limits.specs.declared.ranges.Ranges.{Ranges}
 
 -- the limits over ranges that are given
@@ -16,10 +16,10 @@ room_over t f a vco_in vco clk48 sysclk reach hclk pclk1 pclk2 =
     (3, where_so (sure_hse f a) (is_fed t f))
     ∷ (4, where_so (sure_pll f a) (overlaps t.limits.vco_in vco_in))
     ∷ (5, where_so (sure_pll f a) (overlaps t.limits.vco vco))
-    ∷ (6, at_most sysclk.least (whole t.limits.sysclk))
+    ∷ (6, some_sysclk t sysclk.least a.vos)
     ∷ (7, list_any (λ vos. is_within_max hclk.least (scale_limit t vos)) a.vos)
-    ∷ (8, at_most pclk1.least (whole t.limits.pclk1))
-    ∷ (9, at_most pclk2.least (whole t.limits.pclk2))
+    ∷ (8, some_pclk1 t pclk1.least a.vos)
+    ∷ (9, some_pclk2 t pclk2.least a.vos)
     ∷ (10, where_so f.exact48 (has clk48 (whole mhz_48)))
     ∷ (11, where_so f.most48 (at_most clk48.least (whole mhz_48)))
     ∷ (12, at_most (whole f.floor) hclk.most)
@@ -27,6 +27,7 @@ room_over t f a vco_in vco clk48 sysclk reach hclk pclk1 pclk2 =
     ∷ (14, has_wish f.hclk reach)
     ∷ (15, has_wish f.pclk1 pclk1)
     ∷ (16, has_wish f.pclk2 pclk2)
+    ∷ (17, where_so (sure_over a) (may_pll f a))
     ∷ []
 
 abbrev pub room_by : TableParts → Facts → Allowed → Ranges → List (ℕ × Bool)

@@ -59,7 +59,7 @@ pub(crate) fn is_fed(t: &TableParts, f: &Facts) -> bool
 
 /// The number of the first limit, from 3, whose test failed.
 pub(crate) fn first_broken(met: &[bool]) -> Option<u8>
-    requires { length met.now ≤ 14 }
+    requires { length met.now ≤ 15 }
     ensures { result ≡ first_broken (numbered 3 met.now) }
 {
     for k in 0..met.len() {
@@ -72,7 +72,7 @@ pub(crate) fn first_broken(met: &[bool]) -> Option<u8>
 
 /// Whether the test of the limit of this number failed, where the first has number 3.
 pub(crate) fn is_broken(met: &[bool], limit: u8) -> bool
-    requires { length met.now ≤ 14 }
+    requires { length met.now ≤ 15 }
     ensures { result ≡ not (is_met limit (numbered 3 met.now)) }
 {
     for k in 0..met.len() {

@@ -1,6 +1,6 @@
 //! The values at the positions of a box.
 ghost use Rattle.std.specs.Prelude.{◌≡◌, ◌<◌, ◌==◌, length};
-ghost use Rattle.std.specs.List.{list_all};
+ghost use Rattle.std.specs.List.{list_all, list_any};
 ghost use Rattle.clock_limits.specs.Ranges.{IsRun, IsClockBox, run_of, allowed, least_of, greatest_of};
 ghost use Rattle.clock_limits.specs.Runs.{seen};
 
@@ -82,4 +82,10 @@ pub(crate) fn all_are(values: &[u16], source: u16) -> bool
     ensures { result ≡ list_all (λ s. s == source) values.now }
 {
     values.iter().all(|s| *s == source)
+}
+
+pub(crate) fn any_is(values: &[u16], source: u16) -> bool
+    ensures { result ≡ list_any (λ s. s == source) values.now }
+{
+    values.iter().any(|s| *s == source)
 }

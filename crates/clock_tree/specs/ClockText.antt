@@ -2,6 +2,7 @@
 use Rattle.std.specs.Prelude.{ℕ, ◌/◌, List, ◌++◌, if◌then◌else◌, Option, Some, None, codes, decimal}
 use Rattle.res_base.specs.Fraction.{Fraction}
 use Rattle.res_model.specs.Clock.{hse_used, pll_used, nodes_of}
+use Rattle.res_model.specs.ClockValues.{has_over, scale_of_step}
 use Rattle.res_model.specs.declared.clock.ClockChoice.{ClockChoice}
 use Rattle.res_model.specs.declared.clock.Facts.{Facts}
 use Rattle.res_model.specs.declared.clock.Nodes.{Nodes}
@@ -30,9 +31,13 @@ hse_line f c =
     then codes "hse " ++ (if f.bypass then codes "bypass" else codes "crystal") ++ codes " " ++ decimal f.hse_hz ++ codes "\n"
     else codes "hse off\n"
 
+-- behind the scale stands whether over-drive is on
+abbrev pub over_word : ℕ → List ℕ
+over_word step = if has_over step then codes " over\n" else codes "\n"
+
 unfoldable pub divider_line : ClockChoice → List ℕ
 divider_line c =
-    codes "ahb " ++ decimal c.hpre ++ codes " apb1 " ++ decimal c.ppre1 ++ codes " apb2 " ++ decimal c.ppre2 ++ codes " vos " ++ decimal c.vos ++ codes "\n"
+    codes "ahb " ++ decimal c.hpre ++ codes " apb1 " ++ decimal c.ppre1 ++ codes " apb2 " ++ decimal c.ppre2 ++ codes " vos " ++ decimal (scale_of_step c.vos) ++ over_word c.vos
 
 abbrev pub floor : Fraction → ℕ
 floor x = x.num / x.den

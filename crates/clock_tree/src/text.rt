@@ -1,11 +1,11 @@
 //! The text of a choice with its nodes.
 ghost use Rattle.std.specs.Prelude.{◌≡◌, ◌<◌, ◌^◌, ◌++◌, decimal, IfOk, OnOk, string_bytes};
 ghost use Rattle.res_model.specs.Clock.{IsInRange, nodes_of};
-ghost use Rattle.clock_tree.specs.ClockText.{source_word, source_line, pll_words, pll_line, hse_line, divider_line, node_line, off_line, floor, pll_node_line, choice_lines, first_nodes, last_nodes, wait_word, supply_line, clock_text};
+ghost use Rattle.clock_tree.specs.ClockText.{source_word, source_line, pll_words, pll_line, hse_line, over_word, divider_line, node_line, off_line, floor, pll_node_line, choice_lines, first_nodes, last_nodes, wait_word, supply_line, clock_text};
 
 use crate::tree::{hse_used, nodes, pll_used};
 use res_base::{OutOfMemory, Ratio};
-use res_model::{ClockChoice, Facts, Nodes, Src};
+use res_model::{ClockChoice, Facts, Nodes, Src, has_over, scale_of_step};
 use std::alloc::{AllocError, Global};
 
 fn source_word(source: Src) -> &'static str
@@ -72,6 +72,13 @@ fn hse_line(alloc: Global, f: &Facts, c: &ClockChoice) -> Result<String, AllocEr
     format!(in alloc; "hse {kind} {hertz}\n")
 }
 
+/// What stands behind the scale.
+fn over_word(step: u16) -> &'static str
+    ensures { result.now ≡ over_word step }
+{
+    if has_over(step) { " over\n" } else { "\n" }
+}
+
 #[tactic(auto, unfolding(crate::specs::ClockText::divider_line))]
 fn divider_line(alloc: Global, c: &ClockChoice) -> Result<String, AllocError>
     ensures { IfOk result (λ x. string_bytes x ≡ divider_line c.now) }
@@ -80,8 +87,9 @@ fn divider_line(alloc: Global, c: &ClockChoice) -> Result<String, AllocError>
     put_number(alloc, &mut line, "ahb ", u64::from(c.hpre))?;
     put_number(alloc, &mut line, " apb1 ", u64::from(c.ppre1))?;
     put_number(alloc, &mut line, " apb2 ", u64::from(c.ppre2))?;
-    put_number(alloc, &mut line, " vos ", u64::from(c.vos))?;
-    line.push_str("\n")?;
+    let step = u16::from(c.vos);
+    put_number(alloc, &mut line, " vos ", u64::from(scale_of_step(step)))?;
+    line.push_str(over_word(step))?;
     Ok(line)
 }
 

@@ -10,7 +10,7 @@ use Rattle.reg_machine.specs.Legal.{NodesFit}
 use Rattle.res_base.specs.Fraction.{whole, over}
 use Rattle.res_model.specs.Limits.{IsWithinMax}
 use Rattle.res_model.specs.ClockValues.{hsi}
-use Rattle.res_model.specs.declared.table.TableParts.{TableParts}
+use Rattle.res_model.specs.declared.table.Over.{Over}
 use Rattle.init_gen.specs.declared.setting.Codes.{Codes}
 use Rattle.init_gen.specs.Writes.{pll_word, code_word, acr_word}
 use Rattle.init_gen.specs.Codes.{IsSmall}
@@ -74,14 +74,14 @@ more_within : (scale : Option ℕ) (h : ℕ) → 1 ≤ h → IsWithinMax (over (
 more_within None h l w = w
 more_within (Some most) h l w = more (hsi * 1) most (1 * 1) (1 * h) w (omega arith)
 
-pub hsi_fits : (t : TableParts) (scale : Option ℕ) (rows : List ℕ) (lat h a b : ℕ) → NodesFit t scale rows 0 (whole hsi) 1 1 1 → Rises rows lat → 1 ≤ h → 1 ≤ a → 1 ≤ b → NodesFit t scale rows lat (whole hsi) h a b
-hsi_fits t scale rows lat h a b f r lh la lb = record {
+pub hsi_fits : (speeds : Over) (scale : Option ℕ) (rows : List ℕ) (lat h a b : ℕ) → NodesFit speeds scale rows 0 (whole hsi) 1 1 1 → Rises rows lat → 1 ≤ h → 1 ≤ a → 1 ≤ b → NodesFit speeds scale rows lat (whole hsi) h a b
+hsi_fits speeds scale rows lat h a b f r lh la lb = record {
   sysclk_within = f.sysclk_within;
   scale_covers = more_within scale h lh f.scale_covers;
   row_is_there = r.there;
   row_covers = more (hsi * 1) (get_or rows lat 0) (1 * 1) (1 * h) (higher (hsi * 1) (get_or rows 0 0) (get_or rows lat 0) (1 * 1) f.row_covers r.above) (omega arith);
-  pclk1_within = more (hsi * 1) t.limits.pclk1 (1 * 1 * 1) (1 * h * a) f.pclk1_within (omega (arith, mul-le 1 1 h a lh la));
-  pclk2_within = more (hsi * 1) t.limits.pclk2 (1 * 1 * 1) (1 * h * b) f.pclk2_within (omega (arith, mul-le 1 1 h b lh lb));
+  pclk1_within = more (hsi * 1) speeds.pclk1 (1 * 1 * 1) (1 * h * a) f.pclk1_within (omega (arith, mul-le 1 1 h a lh la));
+  pclk2_within = more (hsi * 1) speeds.pclk2 (1 * 1 * 1) (1 * h * b) f.pclk2_within (omega (arith, mul-le 1 1 h b lh lb));
 }
 
 -- the word of FLASH_ACR

@@ -1,5 +1,6 @@
 -- The latency, the dividers, the switch and the pins, for any state of the oscillators that stays.
-use Rattle.std.proofs.Common.{◌≡◌, ℕ, ◌+◌, ◌*◌, ◌-◌, ◌/◌, ◌%◌, ◌^◌, ◌<◌, ◌≤◌, List, ◌∷◌, get_or, Bool, true, false, ◌&&◌, ◌||◌, cond, eqb, ltb, bit_and, bit_or, Option, None, inl, inr, refl, sym, subst, ap, ◌∙◌, arith}
+use Rattle.std.proofs.Common.{◌≡◌, ℕ, ◌+◌, ◌*◌, ◌-◌, ◌/◌, ◌%◌, ◌^◌, ◌<◌, ◌≤◌, List, ◌∷◌, get_or, Bool, true, false, ◌&&◌, ◌||◌, cond, eqb, ltb, bit_and, bit_or, Option, Some, None, inl, inr, refl, sym, subst, ap, ◌∙◌, arith}
+use Rattle.std.specs.Prelude.{unwrap_or}
 use Rattle.std.proofs.lemmas.Bool.{eq-eqb, eqb-true, cases_lt}
 use Rattle.std.proofs.lemmas.Bool.Decides.{nat_tests}
 use Rattle.std.proofs.lemmas.Nat.{and_block, and_mask, and_comm, or_shifted}
@@ -21,17 +22,17 @@ use Rattle.reg_machine.specs.Reset.{reset_gpio}
 use Rattle.init_gen.specs.PinWrites.{wanted, AreWhole, gpio_section}
 use Rattle.res_base.specs.Fraction.{Fraction, whole}
 use Rattle.res_model.specs.Limits.{AreWithin}
-use Rattle.res_model.specs.Power.{scale_limit}
+use Rattle.res_model.specs.Power.{speeds_at, scale_limit}
 use Rattle.res_model.specs.ClockValues.{hsi}
 use Rattle.res_model.specs.declared.table.Mode.{Mode}
 use Rattle.res_model.specs.declared.table.TableParts.{TableParts}
 use Rattle.reg_machine.specs.declared.state.Target.{Target}
-use Rattle.reg_machine.specs.Tree.{choice_of, hpre_of, ppre1_of, ppre2_of, hpre_value, ppre_value, vos_of}
+use Rattle.reg_machine.specs.Tree.{choice_of, hpre_of, ppre1_of, ppre2_of, hpre_value, ppre_value}
 use Rattle.reg_machine.specs.Legal.{NodesFit, IsChoiceLegal, IsLegal}
 use Rattle.init_gen.specs.declared.setting.Codes.{Codes}
 use Rattle.init_gen.specs.Writes.{code_word, acr_word, switch_ops, late_ops}
 use Rattle.init_gen.specs.Codes.{IsSmall}
-use Rattle.init_gen.proofs.Fitting.{Rises, CodesFit, TakesReset, PllIs, FieldsAre, chosen_scale, rows_of, vco_in_at, vco_at, sys_at}
+use Rattle.init_gen.proofs.Fitting.{Rises, CodesFit, TakesReset, TakesNow, OverStays, PllIs, FieldsAre, step_now, rows_of, vco_in_at, vco_at, sys_at}
 use Rattle.reg_machine.proofs.SoundLemmas.{sound_op, sound_await}
 use Rattle.init_gen.proofs.GpioLemmas.{reset_pin, reset_legal}
 use Rattle.init_gen.proofs.SectionLemmas.{with_ports, section_sound}
@@ -60,6 +61,16 @@ none_comes true x = refl
 none_comes false true = refl
 none_comes false false = refl
 
+-- over-drive that is not enabled stays off, and one that is on stays on
+pub off_stays : (word : ℕ) → eqb (word / 2 ^ 16 % 2) 1 ≡ false → eqb (word / 2 ^ 17 % 2) 1 ≡ false → OverStays word false false
+off_stays word e d = record {
+  ready_stays = λ a on. ap (λ (z : Bool). false || (a.over && (z && on))) e ∙ none_comes false a.over;
+  switch_stays = λ a on. ap (λ (z : Bool). false || (a.over_switch && (z && on))) d ∙ none_comes false a.over_switch;
+}
+
+pub on_stays : (word : ℕ) → OverStays word true true
+on_stays word = record { ready_stays = λ a on. refl; switch_stays = λ a on. refl }
+
 pub still_true : (b : Bool) → (b || true) ≡ true
 still_true true = refl
 still_true false = refl
@@ -69,7 +80,7 @@ pub taken : (x b : Bool) (n : ℕ) → cond x n (cond b n 0) ≡ cond (x || b) n
 taken true b n = refl
 taken false b n = refl
 
-module _ (pf oi by : Bool) (ax ay pw : ℕ) where
+module _ (pf oi by : Bool) (ax ay pw vn : ℕ) (ov sw : Bool) where
   -- the states: RCC_CR, PLLCFGR, CFGR and ACR, HSE's and the PLL's flag, the latency and the source in effect, the mark, polls
   abbrev pub at : ℕ → ℕ → ℕ → ℕ → Bool → Bool → ℕ → ℕ → Bool → ℕ → State
   at cr v c r hse pll lat src wr p =
@@ -88,24 +99,48 @@ module _ (pf oi by : Bool) (ax ay pw : ℕ) where
         pll_ready = pll;
         latency = lat;
         source = src;
+        over_ready = ov;
+        over_switched = sw;
         acr_written = wr;
         polls = p;
         osc_in = oi;
         bypass = by;
         prefetch = pf;
+        version = vn;
       }
 
-  -- what flags do to such a state
-  pub flags_to : (a : Answer) (cr v c r : ℕ) (hse pll : Bool) (lat src : ℕ) (wr : Bool) (p : ℕ) (hse' pll' : Bool) (lat' src' : ℕ)
+-- what flags do to such a state
+module _ (pf oi by : Bool) (ax ay pw vn : ℕ) where
+  pub flags_all : (a : Answer) (ov sw : Bool) (cr v c r : ℕ) (hse pll : Bool) (lat src : ℕ) (wr : Bool) (p : ℕ) (hse' pll' : Bool) (lat' src' : ℕ) (ov' sw' : Bool)
       → (hse || (a.hse && eqb (cr / 2 ^ 16 % 2) 1)) ≡ hse'
       → (pll || (a.pll && (eqb (cr / 2 ^ 24 % 2) 1 && cond (eqb (v / 2 ^ 22 % 2) 1) (hse || (a.hse && eqb (cr / 2 ^ 16 % 2) 1)) true))) ≡ pll'
       → cond a.latency (r % 8) lat ≡ lat' → cond a.switch (c % 4) src ≡ src'
-      → flags a (at cr v c r hse pll lat src wr p) ≡ at cr v c r hse' pll' lat' src' wr p
-  flags_to a cr v c r hse pll lat src wr p hse' pll' lat' src' eh ep el es =
-      ap (λ (h : Bool). at cr v c r h (pll || (a.pll && (eqb (cr / 2 ^ 24 % 2) 1 && cond (eqb (v / 2 ^ 22 % 2) 1) (hse || (a.hse && eqb (cr / 2 ^ 16 % 2) 1)) true))) (cond a.latency (r % 8) lat) (cond a.switch (c % 4) src) wr p) eh
-      ∙ ap (λ (q : Bool). at cr v c r hse' q (cond a.latency (r % 8) lat) (cond a.switch (c % 4) src) wr p) ep
-      ∙ ap (λ l. at cr v c r hse' pll' l (cond a.switch (c % 4) src) wr p) el
-      ∙ ap (λ x. at cr v c r hse' pll' lat' x wr p) es
+      → (ov || (a.over && (eqb (pw / 2 ^ 16 % 2) 1 && eqb (cr / 2 ^ 24 % 2) 1))) ≡ ov'
+      → (sw || (a.over_switch && (eqb (pw / 2 ^ 17 % 2) 1 && (ov || (a.over && (eqb (pw / 2 ^ 16 % 2) 1 && eqb (cr / 2 ^ 24 % 2) 1)))))) ≡ sw'
+      → flags a (at pf oi by ax ay pw vn ov sw cr v c r hse pll lat src wr p) ≡ at pf oi by ax ay pw vn ov' sw' cr v c r hse' pll' lat' src' wr p
+  flags_all a ov sw cr v c r hse pll lat src wr p hse' pll' lat' src' ov' sw' eh ep el es eo ew =
+      let h0 = hse || (a.hse && eqb (cr / 2 ^ 16 % 2) 1) in
+      let q0 = pll || (a.pll && (eqb (cr / 2 ^ 24 % 2) 1 && cond (eqb (v / 2 ^ 22 % 2) 1) h0 true)) in
+      let l0 = cond a.latency (r % 8) lat in
+      let s0 = cond a.switch (c % 4) src in
+      let o0 = ov || (a.over && (eqb (pw / 2 ^ 16 % 2) 1 && eqb (cr / 2 ^ 24 % 2) 1)) in
+      let w0 = sw || (a.over_switch && (eqb (pw / 2 ^ 17 % 2) 1 && o0)) in
+      ap (λ (b : Bool). at pf oi by ax ay pw vn o0 w0 cr v c r b q0 l0 s0 wr p) eh
+      ∙ ap (λ (b : Bool). at pf oi by ax ay pw vn o0 w0 cr v c r hse' b l0 s0 wr p) ep
+      ∙ ap (λ n. at pf oi by ax ay pw vn o0 w0 cr v c r hse' pll' n s0 wr p) el
+      ∙ ap (λ n. at pf oi by ax ay pw vn o0 w0 cr v c r hse' pll' lat' n wr p) es
+      ∙ ap (λ (b : Bool). at pf oi by ax ay pw vn b w0 cr v c r hse' pll' lat' src' wr p) eo
+      ∙ ap (λ (b : Bool). at pf oi by ax ay pw vn ov' b cr v c r hse' pll' lat' src' wr p) ew
+
+  -- where those of over-drive stay
+  pub flags_to : (ov sw : Bool) → OverStays pw ov sw → (a : Answer) (cr v c r : ℕ) (hse pll : Bool) (lat src : ℕ) (wr : Bool) (p : ℕ) (hse' pll' : Bool) (lat' src' : ℕ)
+      → (hse || (a.hse && eqb (cr / 2 ^ 16 % 2) 1)) ≡ hse'
+      → (pll || (a.pll && (eqb (cr / 2 ^ 24 % 2) 1 && cond (eqb (v / 2 ^ 22 % 2) 1) (hse || (a.hse && eqb (cr / 2 ^ 16 % 2) 1)) true))) ≡ pll'
+      → cond a.latency (r % 8) lat ≡ lat' → cond a.switch (c % 4) src ≡ src'
+      → flags a (at pf oi by ax ay pw vn ov sw cr v c r hse pll lat src wr p) ≡ at pf oi by ax ay pw vn ov sw cr v c r hse' pll' lat' src' wr p
+  flags_to ov sw os a cr v c r hse pll lat src wr p hse' pll' lat' src' eh ep el es =
+      flags_all a ov sw cr v c r hse pll lat src wr p hse' pll' lat' src' ov sw eh ep el es (os.ready_stays a (eqb (cr / 2 ^ 24 % 2) 1))
+      (os.switch_stays a (ov || (a.over && (eqb (pw / 2 ^ 16 % 2) 1 && eqb (cr / 2 ^ 24 % 2) 1))))
 
 -- of RCC_CFGR's word: the bits that a write may not change, and the bits of SWS
 cfgr_others : (h a b s : ℕ) → h < 16 → a < 8 → b < 8 → s < 3 → bit_and (h * 2 ^ 4 + a * 2 ^ 10 + b * 2 ^ 13 + s) 4294902528 ≡ 0
@@ -154,26 +189,30 @@ pub record Stays (t : TableParts) (want : Target) (sys : Fraction) (c : Codes) (
 pub first_pins : (wants : List (Option Mode)) → ArePinsLegal wants reset_gpio
 first_pins wants = record { pin = λ q l. reset_legal (get_or wants q None) q _ _ (reset_pin q l) }
 
-module _ (pf oi by : Bool) (ax ay pw : ℕ) (tb : TableParts) (want : Target) (sys : Fraction) (c : Codes) (f : IsSmall c) (t : TakesReset tb want c) (hn : NodesFit tb (scale_limit tb (vos_of pw)) (rows_of tb want) 0 (whole hsi) 1 1 1) where
+module _ (pf oi by : Bool) (ax ay pw vn : ℕ) (ov sw : Bool) (tb : TableParts) (want : Target) (sys : Fraction) (c : Codes) (f : IsSmall c) (t : TakesReset tb want c) (hn : TakesNow tb want vn pw sw) where
+  abbrev now : ℕ
+  now = unwrap_or (step_now vn pw sw) 0
+
   -- HSI in effect and asked for
-  hsi_nodes : (lat cf : ℕ) → Rises (rows_of tb want) lat → NodesFit tb (scale_limit tb (vos_of pw)) (rows_of tb want) lat (whole hsi) (hpre_of cf) (ppre1_of cf) (ppre2_of cf)
-  hsi_nodes lat cf rise = hsi_fits tb (scale_limit tb (vos_of pw)) (rows_of tb want) lat (hpre_of cf) (ppre1_of cf) (ppre2_of cf) hn rise (hpre_pos (field_of 4 4 cf)) (ppre_pos (field_of 10 3 cf)) (ppre_pos (field_of 13 3 cf))
+  hsi_nodes : (lat cf : ℕ) → Rises (rows_of tb want) lat → NodesFit (speeds_at tb now) (scale_limit tb now) (rows_of tb want) lat (whole hsi) (hpre_of cf) (ppre1_of cf) (ppre2_of cf)
+  hsi_nodes lat cf rise = hsi_fits (speeds_at tb now) (scale_limit tb now) (rows_of tb want) lat (hpre_of cf) (ppre1_of cf) (ppre2_of cf) hn.hsi rise (hpre_pos (field_of 4 4 cf)) (ppre_pos (field_of 10 3 cf)) (ppre_pos (field_of 13 3 cf))
 
   pub first_row : Rises (rows_of tb want) 0
-  first_row = record { there = hn.row_is_there; above = omega arith }
+  first_row = record { there = hn.hsi.row_is_there; above = omega arith }
 
   pub legal_hsi : (cr x cf ac : ℕ) (hse pll : Bool) (lat : ℕ) (wr : Bool) (p : ℕ) → cf % 4 ≡ 0 → Rises (rows_of tb want) lat
       → (eqb (cr / 2 ^ 24 % 2) 1 ≡ true → AreWithin tb.limits.vco_in (vco_in_at want.facts x)) → (eqb (cr / 2 ^ 24 % 2) 1 ≡ true → AreWithin tb.limits.vco (vco_at want.facts x))
-      → IsLegal tb want (at pf oi by ax ay pw cr x cf ac hse pll lat 0 wr p)
+      → IsLegal tb want (at pf oi by ax ay pw vn ov sw cr x cf ac hse pll lat 0 wr p)
   legal_hsi cr x cf ac hse pll lat wr p e rise vco_in vco = record {
+    power = hn.some;
     in_effect = hsi_nodes lat cf rise;
-    asked = subst (λ s. IsChoiceLegal tb want.facts lat (choice_of (at pf oi by ax ay pw cr x cf ac hse pll lat 0 wr p) s)) (sym e) (hsi_nodes lat cf rise);
+    asked = subst (λ s. IsChoiceLegal tb want.facts lat (choice_of (at pf oi by ax ay pw vn ov sw cr x cf ac hse pll lat 0 wr p) s)) (sym e) (hsi_nodes lat cf rise);
     vco_in = vco_in;
     vco = vco;
     pins = first_pins want.pins;
   }
 
-  module _ (pins : List (Option Setup)) (link : (p : ℕ) → ◌≡◌ {A = Option Mode} (get_or want.pins p None) (wanted (get_or pins p None))) (g : CodesFit tb want sys c) (whole_pins : AreWhole pins) (cr v : ℕ) (hse pll : Bool) (k : Stays tb want sys c cr v hse pll) (sc : scale_limit tb (vos_of pw) ≡ chosen_scale tb c) where
+  module _ (pins : List (Option Setup)) (link : (p : ℕ) → ◌≡◌ {A = Option Mode} (get_or want.pins p None) (wanted (get_or pins p None))) (g : CodesFit tb want sys c) (whole_pins : AreWhole pins) (cr v : ℕ) (hse pll : Bool) (k : Stays tb want sys c cr v hse pll) (os : OverStays pw ov sw) (sc : step_now vn pw sw ≡ Some c.step) where
     abbrev d : ℕ
     d = code_word c
 
@@ -192,42 +231,48 @@ module _ (pf oi by : Bool) (ax ay pw : ℕ) (tb : TableParts) (want : Target) (s
     b_is : ppre2_of (d + c.src) ≡ ppre_value c.code2
     b_is = ap ppre_value (code2_is c f c.src sw_small)
 
-    fits_at : (scale : Option ℕ) (x : Fraction) (h a b : ℕ) → scale ≡ chosen_scale tb c → x ≡ sys → h ≡ hpre_value c.hcode → a ≡ ppre_value c.code1 → b ≡ ppre_value c.code2 → NodesFit tb scale (rows_of tb want) c.wait x h a b
-    fits_at scale x h a b es ex eh ea eb =
-        subst (λ o. NodesFit tb o (rows_of tb want) c.wait x h a b) (sym es) (subst (λ y. NodesFit tb (chosen_scale tb c) (rows_of tb want) c.wait y h a b) (sym ex)
-        (subst (λ y. NodesFit tb (chosen_scale tb c) (rows_of tb want) c.wait sys y a b) (sym eh)
-        (subst (λ y. NodesFit tb (chosen_scale tb c) (rows_of tb want) c.wait sys (hpre_value c.hcode) y b) (sym ea)
-        (subst (λ y. NodesFit tb (chosen_scale tb c) (rows_of tb want) c.wait sys (hpre_value c.hcode) (ppre_value c.code1) y) (sym eb) g.nodes))))
+    fits_at : (step : ℕ) (x : Fraction) (h a b : ℕ) → step ≡ c.step → x ≡ sys → h ≡ hpre_value c.hcode → a ≡ ppre_value c.code1 → b ≡ ppre_value c.code2 → NodesFit (speeds_at tb step) (scale_limit tb step) (rows_of tb want) c.wait x h a b
+    fits_at step x h a b es ex eh ea eb =
+        subst (λ n. NodesFit (speeds_at tb n) (scale_limit tb n) (rows_of tb want) c.wait x h a b) (sym es)
+        (subst (λ y. NodesFit (speeds_at tb c.step) (scale_limit tb c.step) (rows_of tb want) c.wait y h a b) (sym ex)
+        (subst (λ y. NodesFit (speeds_at tb c.step) (scale_limit tb c.step) (rows_of tb want) c.wait sys y a b) (sym eh)
+        (subst (λ y. NodesFit (speeds_at tb c.step) (scale_limit tb c.step) (rows_of tb want) c.wait sys (hpre_value c.hcode) y b) (sym ea)
+        (subst (λ y. NodesFit (speeds_at tb c.step) (scale_limit tb c.step) (rows_of tb want) c.wait sys (hpre_value c.hcode) (ppre_value c.code1) y) (sym eb) g.nodes))))
 
-    src_nodes : NodesFit tb (scale_limit tb (vos_of pw)) (rows_of tb want) c.wait (sys_at want.facts v c.src) (hpre_of (d + c.src)) (ppre1_of (d + c.src)) (ppre2_of (d + c.src))
-    src_nodes = fits_at (scale_limit tb (vos_of pw)) (sys_at want.facts v c.src) (hpre_of (d + c.src)) (ppre1_of (d + c.src)) (ppre2_of (d + c.src)) sc k.sysclk h_is a_is b_is
+    now_is : now ≡ c.step
+    now_is = ap (λ (o : Option ℕ). unwrap_or o 0) sc
+
+    src_nodes : NodesFit (speeds_at tb now) (scale_limit tb now) (rows_of tb want) c.wait (sys_at want.facts v c.src) (hpre_of (d + c.src)) (ppre1_of (d + c.src)) (ppre2_of (d + c.src))
+    src_nodes = fits_at now (sys_at want.facts v c.src) (hpre_of (d + c.src)) (ppre1_of (d + c.src)) (ppre2_of (d + c.src)) now_is k.sysclk h_is a_is b_is
 
     low_r : r % 8 ≡ c.wait
     low_r = acr_low pf c.wait f.wait
 
     -- ---- the switch, and the pins
     state10 : Bool → ℕ → State
-    state10 b p = at pf oi by ax ay pw cr v (d + c.src) r hse pll c.wait (cond b c.src 0) true p
+    state10 b p = at pf oi by ax ay pw vn ov sw cr v (d + c.src) r hse pll c.wait (cond b c.src 0) true p
 
     flags10 : (a : Answer) (b : Bool) (p : ℕ) → flags a (state10 b p) ≡ state10 (a.switch || b) p
     unfolding state10
     flags10 a b p =
-        flags_to pf oi by ax ay pw a cr v (d + c.src) r hse pll c.wait (cond b c.src 0) true p hse pll c.wait (cond (a.switch || b) c.src 0) (k.hse_stays a) (k.pll_stays a)
+        flags_to pf oi by ax ay pw vn ov sw os a cr v (d + c.src) r hse pll c.wait (cond b c.src 0) true p hse pll c.wait (cond (a.switch || b) c.src 0) (k.hse_stays a) (k.pll_stays a)
         (ap (λ x. cond a.latency x c.wait) low_r ∙ same_if a.latency c.wait)
         (ap (λ x. cond a.switch x (cond b c.src 0)) (sw_is c f c.src sw_small) ∙ taken a.switch b c.src)
 
     legal10 : (n q : ℕ) (w : List ℕ) (b : Bool) (p : ℕ) → ArePinsLegal want.pins w → IsLegal tb want (with_ports (state10 b p) n q w)
     unfolding state10
     legal10 n q w true p al = record {
+      power = hn.some;
       in_effect = src_nodes;
-      asked = subst (λ s. IsChoiceLegal tb want.facts c.wait (choice_of (with_ports (at pf oi by ax ay pw cr v (d + c.src) r hse pll c.wait c.src true p) n q w) s)) (sym (sw_is c f c.src sw_small)) src_nodes;
+      asked = subst (λ s. IsChoiceLegal tb want.facts c.wait (choice_of (with_ports (at pf oi by ax ay pw vn ov sw cr v (d + c.src) r hse pll c.wait c.src true p) n q w) s)) (sym (sw_is c f c.src sw_small)) src_nodes;
       vco_in = k.vco_in;
       vco = k.vco;
       pins = al;
     }
     legal10 n q w false p al = record {
+      power = hn.some;
       in_effect = hsi_nodes c.wait (d + c.src) t.rises;
-      asked = subst (λ s. IsChoiceLegal tb want.facts c.wait (choice_of (with_ports (at pf oi by ax ay pw cr v (d + c.src) r hse pll c.wait 0 true p) n q w) s)) (sym (sw_is c f c.src sw_small)) src_nodes;
+      asked = subst (λ s. IsChoiceLegal tb want.facts c.wait (choice_of (with_ports (at pf oi by ax ay pw vn ov sw cr v (d + c.src) r hse pll c.wait 0 true p) n q w) s)) (sym (sw_is c f c.src sw_small)) src_nodes;
       vco_in = k.vco_in;
       vco = k.vco;
       pins = al;
@@ -244,7 +289,7 @@ module _ (pf oi by : Bool) (ax ay pw : ℕ) (tb : TableParts) (want : Target) (s
     sound11 =
         section_sound (IsLegal tb want) (FieldsAre want sys c) (state10 true 0) pins want.pins link whole_pins (λ a. flags10 a true 0 ∙ ap (λ b. state10 b 0) (still_true a.switch)) refl
         (λ n q w al. legal10 n q w true 0 al)
-        (λ n q w m. record { source = refl; sysclk = k.sysclk; pll_on = k.pll_on; pll = k.pll_is; hpre = h_is; ppre1 = a_is; ppre2 = b_is; modes = m })
+        (λ n q w m. record { source = refl; sysclk = k.sysclk; pll_on = k.pll_on; pll = k.pll_is; hpre = h_is; ppre1 = a_is; ppre2 = b_is; power = sc; modes = m })
 
     -- ---- await the switch
     op10 : Op
@@ -300,7 +345,7 @@ module _ (pf oi by : Bool) (ax ay pw : ℕ) (tb : TableParts) (want : Target) (s
     unfolding S
     sound10 y = sound_await (IsLegal tb want) (FieldsAre want sys c) state10 (λ a. a.switch) op10 ops11 100000 timeout.Switch (record {
       flags_are = flags10;
-      comes = λ a h q l x. x;
+      comes = λ a h q l x y z. x;
       polls_are = polls10;
       goes_on = goes10;
       waits = waits10 y;
@@ -314,7 +359,7 @@ module _ (pf oi by : Bool) (ax ay pw : ℕ) (tb : TableParts) (want : Target) (s
     op9 = op.Modify reg.Cfgr 3 c.src
 
     state9 : State
-    state9 = at pf oi by ax ay pw cr v d r hse pll c.wait 0 true 0
+    state9 = at pf oi by ax ay pw vn ov sw cr v d r hse pll c.wait 0 true 0
 
     sw_d : d % 4 ≡ 0
     sw_d = omega arith
@@ -322,7 +367,7 @@ module _ (pf oi by : Bool) (ax ay pw : ℕ) (tb : TableParts) (want : Target) (s
     flags9 : (a : Answer) → flags a state9 ≡ state9
     unfolding state9
     flags9 a =
-        flags_to pf oi by ax ay pw a cr v d r hse pll c.wait 0 true 0 hse pll c.wait 0 (k.hse_stays a) (k.pll_stays a)
+        flags_to pf oi by ax ay pw vn ov sw os a cr v d r hse pll c.wait 0 true 0 hse pll c.wait 0 (k.hse_stays a) (k.pll_stays a)
         (ap (λ x. cond a.latency x c.wait) low_r ∙ same_if a.latency c.wait)
         (ap (λ x. cond a.switch x 0) sw_d ∙ same_if a.switch 0)
 
@@ -366,7 +411,7 @@ module _ (pf oi by : Bool) (ax ay pw : ℕ) (tb : TableParts) (want : Target) (s
     unfolding state9 state10
     same10 e =
         let plus : d + c.src ≡ d = omega (arith, e) in
-        ap (λ x. at pf oi by ax ay pw cr v x r hse pll c.wait c.src true 0) plus ∙ ap (λ s. at pf oi by ax ay pw cr v d r hse pll c.wait s true 0) e
+        ap (λ x. at pf oi by ax ay pw vn ov sw cr v x r hse pll c.wait c.src true 0) plus ∙ ap (λ s. at pf oi by ax ay pw vn ov sw cr v d r hse pll c.wait s true 0) e
 
     ops9 : List Op
     ops9 = switch_ops c.src ops11
@@ -387,12 +432,12 @@ module _ (pf oi by : Bool) (ax ay pw : ℕ) (tb : TableParts) (want : Target) (s
     op8 = op.Modify reg.Cfgr 64752 d
 
     state7 : Bool → ℕ → State
-    state7 b p = at pf oi by ax ay pw cr v 0 r hse pll (cond b c.wait 0) 0 true p
+    state7 b p = at pf oi by ax ay pw vn ov sw cr v 0 r hse pll (cond b c.wait 0) 0 true p
 
     flags7 : (a : Answer) (b : Bool) (p : ℕ) → flags a (state7 b p) ≡ state7 (a.latency || b) p
     unfolding state7
     flags7 a b p =
-        flags_to pf oi by ax ay pw a cr v 0 r hse pll (cond b c.wait 0) 0 true p hse pll (cond (a.latency || b) c.wait 0) 0 (k.hse_stays a) (k.pll_stays a)
+        flags_to pf oi by ax ay pw vn ov sw os a cr v 0 r hse pll (cond b c.wait 0) 0 true p hse pll (cond (a.latency || b) c.wait 0) 0 (k.hse_stays a) (k.pll_stays a)
         (ap (λ x. cond a.latency x (cond b c.wait 0)) low_r ∙ taken a.latency b c.wait)
         (same_if a.switch 0)
 
@@ -459,14 +504,14 @@ module _ (pf oi by : Bool) (ax ay pw : ℕ) (tb : TableParts) (want : Target) (s
     none_waits : c.wait ≡ 0 → (b : Bool) → state7 b 0 ≡ state7 true 0
     unfolding state7
     none_waits e true = refl
-    none_waits e false = ap (λ l. at pf oi by ax ay pw cr v 0 r hse pll l 0 true 0) (sym e)
+    none_waits e false = ap (λ l. at pf oi by ax ay pw vn ov sw cr v 0 r hse pll l 0 true 0) (sym e)
 
     sound7 : S (op7 ∷ ops8) (state7 false 0)
     unfolding S ops8
     sound7 = elim (cases_lt 0 c.wait) [
       | inl y ↦ sound_await (IsLegal tb want) (FieldsAre want sys c) state7 (λ a. a.latency) op7 ops8 1000 timeout.Latency (record {
         flags_are = flags7;
-        comes = λ a h q l x. l;
+        comes = λ a h q l x y z. l;
         polls_are = polls7;
         goes_on = goes7;
         waits = waits7 (omega arith);
@@ -488,11 +533,11 @@ module _ (pf oi by : Bool) (ax ay pw : ℕ) (tb : TableParts) (want : Target) (s
     op6 = op.Write reg.Acr r
 
     state6 : State
-    state6 = at pf oi by ax ay pw cr v 0 0 hse pll 0 0 false 0
+    state6 = at pf oi by ax ay pw vn ov sw cr v 0 0 hse pll 0 0 false 0
 
     flags6 : (a : Answer) → flags a state6 ≡ state6
     unfolding state6
-    flags6 a = flags_to pf oi by ax ay pw a cr v 0 0 hse pll 0 0 false 0 hse pll 0 0 (k.hse_stays a) (k.pll_stays a) (same_if a.latency 0) (same_if a.switch 0)
+    flags6 a = flags_to pf oi by ax ay pw vn ov sw os a cr v 0 0 hse pll 0 0 false 0 hse pll 0 0 (k.hse_stays a) (k.pll_stays a) (same_if a.latency 0) (same_if a.switch 0)
 
     legal6 : IsLegal tb want state6
     unfolding state6
@@ -502,7 +547,7 @@ module _ (pf oi by : Bool) (ax ay pw : ℕ) (tb : TableParts) (want : Target) (s
     unfolding state6 state7 op6
     stored6 = rw (acr_taken pf c.wait f.wait, acr_prefetch pf c.wait f.wait) refl
 
-    pub late_sound : Sound (IsLegal tb want) (FieldsAre want sys c) (late_ops pf c (gpio_section pins)) (at pf oi by ax ay pw cr v 0 0 hse pll 0 0 false 0)
+    pub late_sound : Sound (IsLegal tb want) (FieldsAre want sys c) (late_ops pf c (gpio_section pins)) (at pf oi by ax ay pw vn ov sw cr v 0 0 hse pll 0 0 false 0)
     unfolding S op6 op7 op8 ops8 ops9 ops11 state6
     late_sound =
         let ops = op7 ∷ ops8 in

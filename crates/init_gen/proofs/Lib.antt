@@ -3,6 +3,7 @@ pub mod Fitting
 pub mod GpioLemmas
 pub mod LateLemmas
 pub mod ListLemmas
+pub mod OverLemmas
 pub mod PartLemmas
 pub mod PinLemmas
 pub mod SectionLemmas

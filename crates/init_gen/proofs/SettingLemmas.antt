@@ -1,5 +1,5 @@
 -- A setting that a table allows: its codes fit the table, and what their fields say at the end is the setting.
-use Rattle.std.proofs.Common.{◌≡◌, ℕ, zero, suc, ◌+◌, ◌*◌, ◌<◌, ◌≤◌, List, [], ◌∷◌, map, length, get_or, Bool, true, false, ◌&&◌, ◌||◌, cond, eqb, Option, Some, None, refl, sym, subst, ap, ◌∙◌, arith}
+use Rattle.std.proofs.Common.{◌≡◌, ℕ, zero, suc, ◌+◌, ◌-◌, ◌*◌, ◌^◌, ◌<◌, ◌≤◌, List, [], ◌∷◌, map, length, get_or, Bool, true, false, ◌&&◌, ◌||◌, cond, eqb, Option, Some, None, refl, sym, subst, ap, ◌∙◌, arith}
 use Rattle.std.specs.Prelude.{find}
 use Rattle.std.proofs.Common.{inl, inr}
 use Rattle.std.proofs.lemmas.Bool.{eq-eqb, eqb-true}
@@ -9,9 +9,9 @@ use Rattle.res_base.specs.Lists.{Each, Member, Pairwise}
 use Rattle.res_base.proofs.ListLemmas.{each_in}
 use Rattle.res_model.specs.Clock.{IsOscillator, is_hse, is_pll, hse_used, pll_used, output, vco_in_of, vco_of, system_output_of, sysclk_of, timer, where_used, nodes_of}
 use Rattle.res_model.specs.Limits.{AreWithin, IsWithinMax}
-use Rattle.res_model.specs.Power.{has_supply, range_at, rows_of_range, flash_rows, max_of, scale_limit}
-use Rattle.res_model.specs.ClockValues.{hsi, ahb_dividers, apb_dividers, pll_dividers, known_scales}
-use Rattle.res_model.specs.Valid.{IsValid, IsScale, IsFlashRange}
+use Rattle.res_model.specs.Power.{has_supply, range_at, rows_of_range, flash_rows, plain_speeds, over_speeds, speeds_at, max_of, scale_limit}
+use Rattle.res_model.specs.ClockValues.{hsi, ahb_dividers, apb_dividers, pll_dividers, known_steps, has_over, scale_of_step}
+use Rattle.res_model.specs.Valid.{IsValid, HasOver, IsScale, IsFlashRange}
 use Rattle.res_model.specs.declared.clock.ClockChoice.{ClockChoice}
 use Rattle.res_model.specs.declared.clock.Facts.{Facts}
 use Rattle.res_model.specs.declared.clock.Nodes.{Nodes}
@@ -19,23 +19,25 @@ use Rattle.res_model.specs.declared.clock.Src.{Src}
 use Rattle.res_model.specs.declared.clock.Src.TheVariants.{Hsi, Hse, Pll}
 use Rattle.res_model.specs.declared.table.FlashRange.{FlashRange}
 use Rattle.res_model.specs.declared.table.Mode.{Mode}
+use Rattle.res_model.specs.declared.table.Over.{Over}
 use Rattle.res_model.specs.declared.table.Scale.{Scale}
 use Rattle.res_model.specs.declared.table.TableParts.{TableParts}
 use Rattle.reg_machine.specs.Legal.{NodesFit, IsLegal}
+use Rattle.reg_machine.specs.Power.{vos_mask}
 use Rattle.reg_machine.specs.Tree.{src_of, m_of, hpre_value, ppre_value, tree_of}
 use Rattle.reg_machine.specs.Reset.{reset_of}
 use Rattle.reg_machine.specs.Run.{Sound}
 use Rattle.reg_machine.specs.declared.state.State.{State}
 use Rattle.reg_machine.specs.declared.state.Target.{Target}
 use Rattle.reg_machine.proofs.SoundLemmas.{sound_right}
-use Rattle.init_gen.specs.Codes.{src_code, p_code, hpre_code, ppre_code, oscillator_of, codes_of, IsSmall}
+use Rattle.init_gen.specs.Codes.{src_code, p_code, hpre_code, ppre_code, oscillator_of, vos_word, codes_of, IsSmall}
 use Rattle.init_gen.specs.Good.{IsSettable, IsAllowed, IsRight}
 use Rattle.init_gen.specs.PinWrites.{wanted}
 use Rattle.init_gen.specs.Writes.{writes_of, target_of}
 use Rattle.init_gen.specs.declared.setting.Codes.{Codes}
 use Rattle.init_gen.specs.declared.setting.Setting.{Setting}
 use Rattle.init_gen.specs.declared.setting.Setup.{Setup}
-use Rattle.init_gen.proofs.Fitting.{has_hse, osc_of, vco_in_at, vco_at, sys_at, rows_of, chosen_scale, Rises, CodesFit, TakesReset, Suits, FieldsAre}
+use Rattle.init_gen.proofs.Fitting.{has_hse, osc_of, vco_in_at, vco_at, sys_at, rows_of, Rises, CodesFit, HsiFits, TakesReset, Suits, FieldsAre}
 use Rattle.init_gen.proofs.WritesLemmas.{writes_sound}
 
 -- ---- codes and back
@@ -73,13 +75,23 @@ p_back d m = each_in (λ x. 2 * (p_code x + 1) ≡ x) d pll_dividers (refl, (ref
 p_small : (d : ℕ) → Member d pll_dividers → p_code d < 4
 p_small d m = each_in (λ x. p_code x < 4) d pll_dividers (omega arith, (omega arith, (omega arith, (omega arith, tt)))) m
 
-vos_back : (v : ℕ) → Member v known_scales → cond (eqb v 2) 2 1 ≡ v
-vos_back v m = each_in (λ x. cond (eqb x 2) 2 1 ≡ x) v known_scales (refl, (refl, tt)) m
+mask_small : (b : Bool) → cond b 16384 49152 < 2 ^ 16
+mask_small true = omega arith
+mask_small false = omega arith
 
-pub small : (s : Setting) → IsSettable s → IsSmall (codes_of s.facts s.clock s.wait)
+sets_small : (b : Bool) → Each (λ (x : ℕ). cond b (2 - scale_of_step x) (4 - scale_of_step x) * 2 ^ 14 < 2 ^ 16) (cond b (1 ∷ 2 ∷ []) (1 ∷ 2 ∷ 3 ∷ 4 ∷ 5 ∷ []))
+sets_small true = (omega arith, (omega arith, tt))
+sets_small false = (omega arith, (omega arith, (omega arith, (omega arith, (omega arith, tt)))))
+
+set_small : (version step : ℕ) → Member step (known_steps version) → vos_word version (scale_of_step step) < 2 ^ 16
+set_small version step m = each_in (λ (x : ℕ). vos_word version (scale_of_step x) < 2 ^ 16) step (known_steps version) (sets_small (eqb version 1)) m
+
+pub small : (s : Setting) → IsSettable s → IsSmall (codes_of s.version s.facts s.clock s.wait)
 small s h =
     let c = h.clock in
     record {
+      vos_clear = mask_small (eqb s.version 1);
+      vos_set = set_small s.version s.clock.vos c.vos;
       psrc = psrc_small s.clock.psrc c.range.psrc;
       src = src_small s.clock.src;
       m = omega (arith, c.range.m.1);
@@ -175,6 +187,32 @@ scale_there v (s ∷ ss) each m =
       ]
     ]) refl
 
+-- a step with a limit is one of the table's
+limit_member : (v : ℕ) (ss : List Scale) (x : Fraction) → IsWithinMax x (max_of (find (λ (s : Scale). eqb s.vos v) ss)) → Member v (map (λ (s : Scale). s.vos) ss)
+limit_member v [] x h = absurd h
+limit_member v (s ∷ ss) x h =
+    (elim (eqb s.vos v) as (λ b. eqb s.vos v ≡ b → IsWithinMax x (max_of (cond b (Some s) (find (λ (r : Scale). eqb r.vos v) ss))) → Member v (s.vos ∷ map (λ (r : Scale). r.vos) ss)) [
+      | true ↦ λ e m. inl (sym (eqb-true s.vos v e))
+      | false ↦ λ e m. inr (limit_member v ss x m)
+    ]) refl h
+
+-- the limits of SYSCLK and the buses are not below the HSI, at no power step
+record AreAbove (o : Over) : Type 0 where
+  pub sysclk : hsi ≤ o.sysclk
+  pub pclk1 : hsi ≤ o.pclk1
+  pub pclk2 : hsi ≤ o.pclk2
+
+above_if : (b : Bool) (version : ℕ) (o : Option Over) (plain : Over) → AreAbove plain → HasOver version o → AreAbove (cond b (over_speeds o plain) plain)
+above_if true version None plain p h = p
+above_if true version (Some o) plain p h = record { sysclk = h.1.reset_sysclk; pclk1 = h.1.reset_pclk1; pclk2 = h.1.reset_pclk2 }
+above_if false version o plain p h = p
+
+above : (t : TableParts) → IsValid t → (step : ℕ) → AreAbove (speeds_at t step)
+unfolding speeds_at
+above t valid step =
+    above_if (has_over step) t.version t.over (plain_speeds t.limits)
+    (record { sysclk = valid.limits.reset_sysclk; pclk1 = valid.limits.reset_pclk1; pclk2 = valid.limits.reset_pclk2 }) valid.over
+
 -- ---- what is wanted of each place
 pub link : (pins : List (Option Setup)) (p : ℕ) → ◌≡◌ {A = Option Mode} (get_or (map wanted pins) p None) (wanted (get_or pins p None))
 link [] p = refl
@@ -189,7 +227,7 @@ module _ (t : TableParts) (valid : IsValid t) (s : Setting) (h : IsSettable s) (
   c = s.clock
 
   abbrev k : Codes
-  k = codes_of s.facts s.clock s.wait
+  k = codes_of s.version s.facts s.clock s.wait
 
   abbrev want : Target
   want = target_of s
@@ -204,19 +242,29 @@ module _ (t : TableParts) (valid : IsValid t) (s : Setting) (h : IsSettable s) (
   first_there : 0 < length (flash_rows t s.facts.vdd)
   first_there = omega (arith, a.row.0)
 
-  hsi_nodes : (v : ℕ) → IsWithinMax (over (whole hsi) 1) (scale_limit t v) → NodesFit t (scale_limit t v) (rows_of t want) 0 (whole hsi) 1 1 1
-  hsi_nodes v within = record {
-    sysclk_within = omega (arith, valid.limits.reset_sysclk);
-    scale_covers = within;
-    row_is_there = first_there;
-    row_covers = hsi_row;
-    pclk1_within = omega (arith, valid.limits.reset_pclk1);
-    pclk2_within = omega (arith, valid.limits.reset_pclk2);
-  }
+  hsi_nodes : (v : ℕ) → IsWithinMax (over (whole hsi) 1) (scale_limit t v) → HsiFits t want v
+  hsi_nodes v within =
+      let up = above t valid v in
+      record {
+        sysclk_within = omega (arith, up.sysclk);
+        scale_covers = within;
+        row_is_there = first_there;
+        row_covers = hsi_row;
+        pclk1_within = omega (arith, up.pclk1);
+        pclk2_within = omega (arith, up.pclk2);
+      }
 
   scale_1 : IsWithinMax (over (whole hsi) 1) (scale_limit t 1)
   unfolding scale_limit
   scale_1 = scale_there 1 t.scales valid.scales.each (subst (Member 1) (sym valid.scales.order) valid.clock.vos_one)
+
+  -- scale 2 is there where scale 2 with over-drive is
+  scale_2 : s.clock.vos ≡ 5 → IsWithinMax (over (whole hsi) 1) (scale_limit t 2)
+  unfolding scale_limit
+  scale_2 is =
+      let there : Member s.clock.vos t.clock.vos = subst (Member s.clock.vos) valid.scales.order (limit_member s.clock.vos t.scales _ a.scale) in
+      let two : Member 2 t.clock.vos = valid.clock.vos_two (subst (λ (v : ℕ). Member v t.clock.vos) is there) in
+      scale_there 2 t.scales valid.scales.each (subst (Member 2) (sym valid.scales.order) two)
 
   scale_of : (v : ℕ) (x : Fraction) → IsWithinMax x (scale_limit t v) → IsWithinMax (over (whole hsi) 1) (scale_limit t v)
   unfolding scale_limit
@@ -226,22 +274,27 @@ module _ (t : TableParts) (valid : IsValid t) (s : Setting) (h : IsSettable s) (
   unfolding range_at
   rises = record { there = a.row.0; above = rows_rise (has_supply s.facts.vdd) t.flash s.wait valid.flash.each a.row.0 }
 
+  scale_if : (four five : Bool) → eqb s.clock.vos 4 ≡ four → eqb s.clock.vos 5 ≡ five → IsWithinMax (over (whole hsi) 1) (scale_limit t (cond four 1 (cond five 2 s.clock.vos)))
+  scale_if true five e d = scale_1
+  scale_if false true e d = scale_2 (eqb-true s.clock.vos 5 d)
+  scale_if false false e d = scale_of s.clock.vos _ a.scale
+
   takes : TakesReset t want k
   takes = record {
-    nodes1 = hsi_nodes 1 scale_1;
-    nodes2 = λ e. let two : s.clock.vos ≡ 2 = eqb-true s.clock.vos 2 e in hsi_nodes 2 (subst (λ v. IsWithinMax (over (whole hsi) 1) (scale_limit t v)) two (scale_of s.clock.vos _ a.scale));
+    first = hsi_nodes 1 scale_1;
+    scale = hsi_nodes (scale_of_step s.clock.vos) (scale_if (eqb s.clock.vos 4) (eqb s.clock.vos 5) refl refl);
+    step = hsi_nodes s.clock.vos (scale_of s.clock.vos _ a.scale);
     rises = rises;
   }
 
-  chosen_nodes : NodesFit t (scale_limit t s.clock.vos) (rows_of t want) s.wait sys s.clock.hpre s.clock.ppre1 s.clock.ppre2
+  chosen_nodes : NodesFit (speeds_at t s.clock.vos) (scale_limit t s.clock.vos) (rows_of t want) s.wait sys s.clock.hpre s.clock.ppre1 s.clock.ppre2
   chosen_nodes = record { sysclk_within = a.sysclk; scale_covers = a.scale; row_is_there = a.row.0; row_covers = a.row.1; pclk1_within = a.pclk1; pclk2_within = a.pclk2 }
 
-  code_nodes : NodesFit t (chosen_scale t k) (rows_of t want) s.wait sys (hpre_value k.hcode) (ppre_value k.code1) (ppre_value k.code2)
+  code_nodes : NodesFit (speeds_at t k.step) (scale_limit t k.step) (rows_of t want) s.wait sys (hpre_value k.hcode) (ppre_value k.code1) (ppre_value k.code2)
   code_nodes =
-      subst (λ v. NodesFit t (scale_limit t v) (rows_of t want) s.wait sys (hpre_value k.hcode) (ppre_value k.code1) (ppre_value k.code2)) (sym (vos_back s.clock.vos h.clock.vos))
-      (subst (λ d. NodesFit t (scale_limit t s.clock.vos) (rows_of t want) s.wait sys d (ppre_value k.code1) (ppre_value k.code2)) (sym (hpre_back s.clock.hpre h.clock.hpre))
-      (subst (λ d. NodesFit t (scale_limit t s.clock.vos) (rows_of t want) s.wait sys s.clock.hpre d (ppre_value k.code2)) (sym (ppre_back s.clock.ppre1 h.clock.ppre1))
-      (subst (λ d. NodesFit t (scale_limit t s.clock.vos) (rows_of t want) s.wait sys s.clock.hpre s.clock.ppre1 d) (sym (ppre_back s.clock.ppre2 h.clock.ppre2)) chosen_nodes)))
+      subst (λ d. NodesFit (speeds_at t s.clock.vos) (scale_limit t s.clock.vos) (rows_of t want) s.wait sys d (ppre_value k.code1) (ppre_value k.code2)) (sym (hpre_back s.clock.hpre h.clock.hpre))
+      (subst (λ d. NodesFit (speeds_at t s.clock.vos) (scale_limit t s.clock.vos) (rows_of t want) s.wait sys s.clock.hpre d (ppre_value k.code2)) (sym (ppre_back s.clock.ppre1 h.clock.ppre1))
+      (subst (λ d. NodesFit (speeds_at t s.clock.vos) (scale_limit t s.clock.vos) (rows_of t want) s.wait sys s.clock.hpre s.clock.ppre1 d) (sym (ppre_back s.clock.ppre2 h.clock.ppre2)) chosen_nodes))
 
   fits : CodesFit t want sys k
   fits = record {
@@ -259,6 +312,9 @@ module _ (t : TableParts) (valid : IsValid t) (s : Setting) (h : IsSettable s) (
         ∙ ap (λ x. output s.facts.hse_hz (system_output_of s.facts s.clock) x) (src_back s.clock.src);
     sys_off = λ e pll. off_src s.clock.src s.facts.need48 s.facts.hse_hz pll (system_output_of s.facts s.clock) e;
     nodes = code_nodes;
+    over_is = refl;
+    scale_is = refl;
+    over_pll = λ e. a.over e;
   }
 
   suits : Suits k.oscillator s.facts.osc_in s.facts.bypass
@@ -310,10 +366,10 @@ module _ (t : TableParts) (valid : IsValid t) (s : Setting) (h : IsSettable s) (
         (r.ppre2 ∙ ppre_back s.clock.ppre2 h.clock.ppre2)
 
     right : IsRight s u
-    right = record { nodes = tree_same; modes = r.modes }
+    right = record { nodes = tree_same; power = r.power; modes = r.modes }
 
   pub setting_sound : Sound (IsLegal t (target_of s)) (IsRight s) (writes_of s) (reset_of t (target_of s))
   setting_sound =
       sound_right (IsLegal t want) (FieldsAre want sys k) (IsRight s) (writes_of s) (reset_of t want) right
       (subst (λ pf. Sound (IsLegal t want) (FieldsAre want sys k) (writes_of s) (record (reset_of t want) { prefetch = pf })) a.prefetch
-      (writes_sound s.prefetch s.facts.osc_in s.facts.bypass t want sys k (small s h) takes s.pins (link s.pins) fits h.pins suits))
+      (writes_sound s.prefetch s.facts.osc_in s.facts.bypass t.version t want sys k (small s h) takes s.pins (link s.pins) fits h.pins suits (ap vos_mask a.version) (ap (λ (n : ℕ). vos_word n k.scale) a.version) (subst (λ (n : ℕ). Member s.clock.vos (known_steps n)) a.version h.clock.vos)))

@@ -1,6 +1,8 @@
 -- What the fields of RCC, FLASH and PWR take for a choice of clocks (RM0090).
-use Rattle.std.specs.Prelude.{ℕ, ◌-◌, ◌/◌, ◌<◌, Bool, if◌then◌else◌, ◌==◌}
+use Rattle.std.specs.Prelude.{ℕ, ◌-◌, ◌*◌, ◌/◌, ◌^◌, ◌<◌, Bool, if◌then◌else◌, ◌==◌}
 use Rattle.res_model.specs.Clock.{hse_used, pll_used}
+use Rattle.res_model.specs.ClockValues.{has_over, scale_of_step}
+use Rattle.reg_machine.specs.Power.{vos_mask}
 use Rattle.res_model.specs.declared.clock.ClockChoice.{ClockChoice}
 use Rattle.res_model.specs.declared.clock.Facts.{Facts}
 use Rattle.res_model.specs.declared.clock.Src.{Src}
@@ -32,9 +34,21 @@ ppre_code d = if d == 1 then 0 else (if d == 2 then 4 else (if d == 4 then 5 els
 abbrev pub oscillator_of : Bool → Bool → Oscillator
 oscillator_of used bypass = if used then (if bypass then oscillator.Bypass else oscillator.Crystal) else oscillator.Off
 
-abbrev pub codes_of : Facts → ClockChoice → ℕ → Codes
-codes_of f c wait = record {
-  vos2 = c.vos == 2;
+-- the value of VOS for a scale: scale 1 has the greatest of one bit, or of two, and each next scale the value below
+abbrev pub vos_code : ℕ → ℕ → ℕ
+vos_code version scale = if version == 1 then 2 - scale else 4 - scale
+
+abbrev pub vos_word : ℕ → ℕ → ℕ
+vos_word version scale = vos_code version scale * 2 ^ 14
+
+-- of a part by the version of its table
+abbrev pub codes_of : ℕ → Facts → ClockChoice → ℕ → Codes
+codes_of version f c wait = record {
+  step = c.vos;
+  scale = scale_of_step c.vos;
+  vos_clear = vos_mask version;
+  vos_set = vos_word version (scale_of_step c.vos);
+  over = has_over c.vos;
   oscillator = oscillator_of (hse_used f c) f.bypass;
   pll = pll_used f c;
   psrc = src_code c.psrc;
@@ -51,6 +65,8 @@ codes_of f c wait = record {
 
 -- codes that their fields hold
 pub record IsSmall (c : Codes) : Type 0 where
+  pub vos_clear : c.vos_clear < 2 ^ 16
+  pub vos_set : c.vos_set < 2 ^ 16
   pub psrc : c.psrc < 2
   pub src : c.src < 3
   pub m : c.m < 64

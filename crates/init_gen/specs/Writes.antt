@@ -29,9 +29,13 @@ acr_word prefetch wait = 1536 + (if prefetch then 256 else 0) + wait
 
 -- ---- sections
 
--- scale 2: PWREN set and read back, and VOS cleared
-abbrev pub vos_ops : Bool → List Op → List Op
-vos_ops vos2 rest = if vos2 then op.Modify reg.Apb1enr 0 0x10000000 ∷ op.Read reg.Apb1enr ∷ op.Modify reg.PwrCr 0x00004000 0 ∷ rest else rest
+-- another scale than scale 1, which is that of reset: VOS
+abbrev pub scale_ops : Codes → List Op → List Op
+scale_ops c rest = if c.scale == 1 then rest else op.Modify reg.PwrCr c.vos_clear c.vos_set ∷ rest
+
+-- another power step than scale 1 alone: PWREN set and read back, and the scale
+abbrev pub vos_ops : Codes → List Op → List Op
+vos_ops c rest = if c.step == 1 then rest else op.Modify reg.Apb1enr 0 0x10000000 ∷ op.Read reg.Apb1enr ∷ scale_ops c rest
 
 -- the HSE: HSEBYP set where it bypasses the oscillator, HSEON set, and HSERDY awaited
 abbrev pub hse_ops : Oscillator → List Op → List Op
@@ -42,6 +46,17 @@ hse_ops oscillator.Bypass rest = op.Modify reg.Cr 0 0x00040000 ∷ op.Modify reg
 -- the PLL: its word, PLLON set, and PLLRDY awaited
 abbrev pub pll_ops : Codes → List Op → List Op
 pll_ops c rest = if c.pll then op.Write reg.Pllcfgr (pll_word c) ∷ op.Modify reg.Cr 0 0x01000000 ∷ op.Await reg.Cr 0x02000000 0x02000000 10000 timeout.Pll ∷ rest else rest
+
+-- over-drive, beside the PLL that runs and is not yet in effect: ODEN set and ODRDY awaited, and then ODSWEN and ODSWRDY
+abbrev pub over_ops : Bool → List Op → List Op
+over_ops over rest =
+    if over
+    then op.Modify reg.PwrCr 0 0x00010000
+    ∷ op.Await reg.PwrCsr 0x00010000 0x00010000 10000 timeout.Over
+    ∷ op.Modify reg.PwrCr 0 0x00020000
+    ∷ op.Await reg.PwrCsr 0x00020000 0x00020000 10000 timeout.OverSwitch
+    ∷ rest
+    else rest
 
 -- the switch, where SYSCLK is not from HSI: SW, and SWS awaited
 abbrev pub switch_ops : ℕ → List Op → List Op
@@ -59,8 +74,8 @@ late_ops prefetch c rest =
 
 abbrev pub writes_of : Setting → List Op
 writes_of s =
-    let c = codes_of s.facts s.clock s.wait in
-    vos_ops c.vos2 (hse_ops c.oscillator (pll_ops c (late_ops s.prefetch c (gpio_section s.pins))))
+    let c = codes_of s.version s.facts s.clock s.wait in
+    vos_ops c (hse_ops c.oscillator (pll_ops c (over_ops c.over (late_ops s.prefetch c (gpio_section s.pins)))))
 
 -- what the machine is to have at the end
 abbrev pub target_of : Setting → Target

@@ -1,17 +1,25 @@
 //! The codes of the fields.
-ghost use Rattle.std.specs.Prelude.{◌≡◌, ℕ, ◌<◌, ◌/◌, ◌-◌};
-ghost use Rattle.init_gen.specs.Codes.{src_code, p_code, hpre_code, ppre_code, oscillator_of, codes_of};
+ghost use Rattle.std.specs.Prelude.{◌≡◌, ℕ, ◌<◌, ◌≤◌, ◌/◌, ◌-◌};
+ghost use Rattle.reg_machine.specs.Power.{vos_mask};
+ghost use Rattle.init_gen.specs.Codes.{src_code, p_code, hpre_code, ppre_code, oscillator_of, vos_code, vos_word, codes_of};
 
 use crate::setting::{Codes, Oscillator};
 use clock_tree::{hse_used, pll_used};
-use res_model::{ClockChoice, Facts, Src};
+use reg_machine::vos_mask;
+use res_model::{ClockChoice, Facts, Src, has_over, scale_of_step};
 
-/// What the fields take for a choice under these wait states.
-pub fn codes_of(f: &Facts, c: &ClockChoice, wait: u8) -> Codes
-    ensures { result ≡ codes_of f.now c.now wait }
+/// What the fields of a part take for a choice under these wait states, by the version of its table.
+pub fn codes_of(version: u8, f: &Facts, c: &ClockChoice, wait: u8) -> Codes
+    ensures { result ≡ codes_of version f.now c.now wait }
 {
+    let step = u16::from(c.vos);
+    let scale = scale_of_step(step);
     Codes {
-        vos2: c.vos == 2,
+        step: u32::from(step),
+        scale: u32::from(scale),
+        vos_clear: vos_mask(version),
+        vos_set: vos_word(version, scale),
+        over: has_over(step),
         oscillator: oscillator_of(hse_used(f, c), f.bypass),
         pll: pll_used(f, c),
         psrc: src_code(c.psrc),
@@ -25,6 +33,21 @@ pub fn codes_of(f: &Facts, c: &ClockChoice, wait: u8) -> Codes
         code2: ppre_code(c.ppre2),
         wait: u32::from(wait),
     }
+}
+
+/// The value of VOS for a scale.
+fn vos_code(version: u8, scale: u16) -> u32
+    ensures is { result ≡ vos_code version scale }
+    ensures small { result ≤ 4 }
+{
+    let most: u32 = if version == 1 { 2 } else { 4 };
+    most.saturating_sub(u32::from(scale))
+}
+
+fn vos_word(version: u8, scale: u16) -> u32
+    ensures { result ≡ vos_word version scale }
+{
+    vos_code(version, scale) * 0x4000
 }
 
 fn oscillator_of(used: bool, bypass: bool) -> Oscillator

@@ -12,9 +12,10 @@ pub struct Setup {
 }
 
 /// What is to be set up: the clocks, with the wait states of the flash and whether it may prefetch, and each pin, at
-/// port times 16 plus number.
+/// port times 16 plus number. `version` is that of the part's table.
 #[derive(Clone, Copy, Debug, PartialEq, Eq)]
 pub struct Setting {
+    pub version: u8,
     pub facts: Facts,
     pub clock: ClockChoice,
     pub wait: u8,
@@ -33,11 +34,16 @@ pub enum Oscillator {
 
 /// What the fields of RCC, FLASH and PWR take for a choice of clocks.
 ///
-/// `src` is as SW says it and `psrc` as SRC does, `pcode`, `hcode`, `code1` and `code2` are those of PLLP, HPRE, PPRE1
+/// `step` is the power step and `scale` its scale, which PWR_CR says where the bits of `vos_clear` are cleared and then
+/// those of `vos_set` set. `src` is as SW says it and `psrc` as SRC does, `pcode`, `hcode`, `code1` and `code2` are those of PLLP, HPRE, PPRE1
 /// and PPRE2.
 #[derive(Clone, Copy, Debug, PartialEq, Eq)]
 pub struct Codes {
-    pub vos2: bool,
+    pub step: u32,
+    pub scale: u32,
+    pub vos_clear: u32,
+    pub vos_set: u32,
+    pub over: bool,
     pub oscillator: Oscillator,
     pub pll: bool,
     pub psrc: u32,

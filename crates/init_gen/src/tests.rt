@@ -30,7 +30,7 @@ fn facts() -> Facts
 
 /// 168 MHz from the crystal.
 fn clock() -> ClockChoice
-    ensures { HasFields result }
+    ensures { HasFields 1 result }
 {
     ClockChoice {
         src: Src::Pll,
@@ -91,6 +91,7 @@ fn function() -> Op {
 #[test]
 fn a_setting_has_its_accesses(rt: HostRuntime) -> Result<(), Fail> {
     let setting = Setting {
+        version: 1,
         facts: facts(),
         clock: clock(),
         wait: 5,

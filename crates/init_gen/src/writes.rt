@@ -9,7 +9,7 @@ ghost use Rattle.reg_machine.specs.declared.op.Op.TheVariants as op;
 ghost use Rattle.init_gen.specs.declared.setting.Oscillator.TheVariants as oscillator;
 ghost use Rattle.init_gen.specs.Codes.{codes_of, IsSmall};
 ghost use Rattle.init_gen.specs.Good.{IsSettable, IsAllowed, IsRight};
-ghost use Rattle.init_gen.specs.Writes.{pll_word, code_word, acr_word, vos_ops, hse_ops, pll_ops, switch_ops, late_ops, writes_of, target_of};
+ghost use Rattle.init_gen.specs.Writes.{pll_word, code_word, acr_word, scale_ops, vos_ops, hse_ops, pll_ops, over_ops, switch_ops, late_ops, writes_of, target_of};
 
 use crate::codes::codes_of;
 use crate::pins::with_pins;
@@ -27,26 +27,37 @@ pub fn generate(alloc: Global, s: &Setting) -> Result<Vec<Op>, OutOfMemory>
     ensures writes { IfOk result (λ ops. ops.items ≡ writes_of s.now) }
     ensures sound { IfOk result (λ ops. (t : TableParts) → IsValid t → IsAllowed t s.now → Sound (IsLegal t (target_of s.now)) (IsRight s.now) ops.items (reset_of t (target_of s.now))) }
 {
-    let codes = codes_of(&s.facts, &s.clock, s.wait);
+    let codes = codes_of(s.version, &s.facts, &s.clock, s.wait);
     let none = Vec::new(alloc);
-    let zero = with_vos(none, codes.vos2)?;
+    let zero = with_vos(none, codes)?;
     let first = with_hse(zero, codes.oscillator)?;
-    let second = with_pll(first, codes)?;
+    let running = with_pll(first, codes)?;
+    let second = with_over(running, codes.over)?;
     let third = with_late(second, s.prefetch, codes)?;
     let ops = with_pins(third, &s.pins)?;
     Ok(ops)
 }
 
-fn with_vos(ops: Vec<Op>, vos2: bool) -> Result<Vec<Op>, AllocError>
-    ensures { IfOk result (λ r. r.items ≡ ops.items ++ vos_ops vos2 []) }
+fn with_vos(ops: Vec<Op>, c: Codes) -> Result<Vec<Op>, AllocError>
+    ensures { IfOk result (λ r. r.items ≡ ops.items ++ vos_ops c []) }
 {
-    if !vos2 {
+    if c.step == 1 {
         return Ok(ops);
     }
     let mut all = ops;
     all.push(modify(Reg::Apb1enr, 0, 0x1000_0000))?;
     all.push(Op::Read { reg: Reg::Apb1enr })?;
-    all.push(modify(Reg::PwrCr, 0x4000, 0))?;
+    with_scale(all, c)
+}
+
+fn with_scale(ops: Vec<Op>, c: Codes) -> Result<Vec<Op>, AllocError>
+    ensures { IfOk result (λ r. r.items ≡ ops.items ++ scale_ops c []) }
+{
+    if c.scale == 1 {
+        return Ok(ops);
+    }
+    let mut all = ops;
+    all.push(modify(Reg::PwrCr, c.vos_clear, c.vos_set))?;
     Ok(all)
 }
 
@@ -84,6 +95,20 @@ fn with_pll(ops: Vec<Op>, c: Codes) -> Result<Vec<Op>, AllocError>
     all.push(write(Reg::Pllcfgr, pll_word(c)))?;
     all.push(modify(Reg::Cr, 0, 0x100_0000))?;
     all.push(wait(Reg::Cr, 0x200_0000, 0x200_0000, 10_000, Timeout::Pll))?;
+    Ok(all)
+}
+
+fn with_over(ops: Vec<Op>, over: bool) -> Result<Vec<Op>, AllocError>
+    ensures { IfOk result (λ r. r.items ≡ ops.items ++ over_ops over []) }
+{
+    if !over {
+        return Ok(ops);
+    }
+    let mut all = ops;
+    all.push(modify(Reg::PwrCr, 0, 0x1_0000))?;
+    all.push(wait(Reg::PwrCsr, 0x1_0000, 0x1_0000, 10_000, Timeout::Over))?;
+    all.push(modify(Reg::PwrCr, 0, 0x2_0000))?;
+    all.push(wait(Reg::PwrCsr, 0x2_0000, 0x2_0000, 10_000, Timeout::OverSwitch))?;
     Ok(all)
 }
 

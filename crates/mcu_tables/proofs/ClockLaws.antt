@@ -1,24 +1,27 @@
 -- What the names, the clock's domains and the limits of a table that is read keep.
-use Rattle.std.proofs.Common.{◌≡◌, ◌≢◌, ℕ, suc, ◌<◌, ◌≤◌, ◌+◌, ◌-◌, List, [], ◌∷◌, ◌++◌, length, Bool, true, false, Option, Some, None, Result, Ok, Err, refl, sym, ap, subst, arith, ◌∙◌, ltb-true, eqb-true}
+use Rattle.std.proofs.Common.{◌≡◌, ◌≢◌, ℕ, suc, ◌<◌, ◌≤◌, ◌+◌, ◌-◌, List, [], ◌∷◌, ◌++◌, length, Bool, true, false, not, ◌||◌, cond, eqb, Option, Some, None, Result, Ok, Err, inl, inr, refl, sym, ap, subst, arith, ◌∙◌, ltb-true, eqb-true}
 use Rattle.std.specs.Prelude.{◌==◌, nat_lt, codes, slice_get, option_map}
 use Rattle.std.specs.List.{list_any}
 use Rattle.std.specs.Str.{bytes_eq}
+use Rattle.std.proofs.lemmas.Bool.{eq-eqb}
 use Rattle.std.proofs.lemmas.Grind.{common_steps}
 use Rattle.res_base.specs.Lists.{Each, Member, Pairwise}
 use Rattle.res_base.proofs.ListLemmas.{each_push, each_map}
 use Rattle.res_model.specs.Steps.{◌>>=◌}
 use Rattle.mcu_tables.specs.Json.{entries, inside, number}
-use Rattle.res_model.specs.ClockValues.{pll_dividers, ahb_dividers, apb_dividers, known_scales}
-use Rattle.mcu_tables.specs.Table.{below, due, must, need, nested, text, fresh, distinct_text, number_within, number_among, pair_within, entries_after, is_above_last, is_above, above, next_among, some_among, one_among, clock, limits}
+use Rattle.res_model.specs.ClockValues.{pll_dividers, ahb_dividers, apb_dividers, known_steps}
+use Rattle.mcu_tables.specs.Table.{below, due, must, need, member, nested, object, text, fresh, distinct_text, number_within, number_among, pair_within, entries_after, is_above_last, is_above, above, next_among, some_among, one_among, are_paired, steps, clock, limits, over_form, some_over, over, all_limits}
 use Rattle.res_model.specs.Valid.{IsText, IsRange, AreAmong, AreDomains}
 use Rattle.res_model.proofs.PlaceLaws.{differ}
 use Rattle.mcu_tables.proofs.TableLaws.{bound, reads, same_ok, due_some, must_holds, fresh_new, need_keeps, none_passes, text_keeps, number_keeps, among_keeps, pair_keeps, entries_keep, Kept, list_keeps}
 use Rattle.mcu_tables.proofs.PinLaws.{AreKept, one_more}
 use Rattle.serde_json.specs.Data.{Data}
+use Rattle.serde_json.specs.Find.{get}
 use Rattle.mcu_tables.specs.declared.fault.TableFault.{TableFault}
 use Rattle.mcu_tables.specs.declared.fault.TableFault.TheVariants.{BadField}
 use Rattle.res_model.specs.declared.table.Domains.{Domains}
 use Rattle.res_model.specs.declared.table.Bounds.{Bounds}
+use Rattle.res_model.specs.declared.table.Over.{Over}
 
 -- ---- distinct texts
 
@@ -100,6 +103,29 @@ has_one : (ns : List ℕ) → list_any (λ n. n == 1) ns ≡ true → Member 1 n
 has_one [] h = absurd cc
 has_one (n ∷ ns) h = grind (arith, common_steps, has_one ns, eqb-true n 1)
 
+has_two : (ns : List ℕ) → list_any (λ n. n == 2) ns ≡ true → Member 2 ns
+has_two [] h = absurd cc
+has_two (n ∷ ns) h = grind (arith, common_steps, has_two ns, eqb-true n 2)
+
+or_right : (a b : Bool) → b ≡ true → (a || b) ≡ true
+or_right true b h = refl
+or_right false b h = h
+
+any_five : (ns : List ℕ) → Member 5 ns → list_any (λ n. n == 5) ns ≡ true
+any_five [] m = absurd m
+any_five (n ∷ ns) m = elim m [
+  | inl e ↦ ap (λ b. b || list_any (λ k. k == 5) ns) (eq-eqb n 5 (sym e))
+  | inr k ↦ or_right (n == 5) (list_any (λ k. k == 5) ns) (any_five ns k)
+]
+
+where_not : (a b : Bool) → (not a || b) ≡ true → a ≡ true → b ≡ true
+where_not true b h e = h
+where_not false b h e = absurd cc
+
+-- where 5 is among the steps, 2 is
+paired : (ns : List ℕ) → are_paired ns ≡ true → Member 5 ns → Member 2 ns
+paired ns h m = has_two ns (where_not (list_any (λ n. n == 5) ns) (list_any (λ n. n == 2) ns) h (any_five ns m))
+
 some_keep : (these path : List ℕ) (d : Data) (ns : List ℕ) → some_among these path d ≡ Ok ns → AreSome these ns
 unfolding some_among
 some_keep these path d ns h =
@@ -119,6 +145,18 @@ one_keep these path d ns h =
     let fine : AreWithOne these es.0 = record { among = are_among these path ds.0 es.0 es.1; one = has_one es.0 m.0 } in
     subst (AreWithOne these) m.1 fine
 
+pub record AreSteps (these ns : List ℕ) : Type 0 where
+  pub with_one : AreWithOne these ns
+  pub two : Member 5 ns → Member 2 ns
+
+steps_keep : (version : ℕ) (path : List ℕ) (d : Data) (ns : List ℕ) → steps version path d ≡ Ok ns → AreSteps (known_steps version) ns
+unfolding steps
+steps_keep version path d ns h =
+    let os = bound (one_among (known_steps version) path d) _ ns h in
+    let m = must_holds (BadField path) (are_paired os.0) os.0 ns os.2 in
+    let fine : AreSteps (known_steps version) os.0 = record { with_one = one_keep (known_steps version) path d os.0 os.1; two = paired os.0 m.0 } in
+    subst (AreSteps (known_steps version)) m.1 fine
+
 -- ---- the clock's domains
 
 pub nested_keeps : {X : Type 0} (P : X → Type 0) (form : List ℕ → Data → Result X TableFault) (group key : List ℕ) (d : Data) (x : X) → ((path : List ℕ) (v : Data) → form path v ≡ Ok x → P x) → nested form group key d ≡ Ok x → P x
@@ -130,9 +168,9 @@ range_keeps low high group key d p h = nested_keeps (IsRange low high) (pair_wit
 dividers_keep : (these key : List ℕ) (d : Data) (ns : List ℕ) → nested (one_among these) (codes "clock") key d ≡ Ok ns → AreWithOne these ns
 dividers_keep these key d ns h = nested_keeps (AreWithOne these) (one_among these) (codes "clock") key d ns (λ path v e. one_keep these path v ns e) h
 
-pub clock_keeps : (d : Data) (c : Domains) → clock d ≡ Ok c → AreDomains c
+pub clock_keeps : (version : ℕ) (d : Data) (c : Domains) → clock version d ≡ Ok c → AreDomains version c
 unfolding clock
-clock_keeps d c h =
+clock_keeps version d c h =
     let m = bound (nested (pair_within 2 63) (codes "clock") (codes "m") d) _ c h in
     let n = bound (nested (pair_within 50 432) (codes "clock") (codes "n") d) _ c m.2 in
     let q = bound (nested (pair_within 2 15) (codes "clock") (codes "q") d) _ c n.2 in
@@ -140,13 +178,13 @@ clock_keeps d c h =
     let a = bound (nested (one_among ahb_dividers) (codes "clock") (codes "hpre") d) _ c p.2 in
     let b = bound (nested (one_among apb_dividers) (codes "clock") (codes "ppre1") d) _ c a.2 in
     let e = bound (nested (one_among apb_dividers) (codes "clock") (codes "ppre2") d) _ c b.2 in
-    let v = bound (nested (one_among known_scales) (codes "clock") (codes "vos") d) _ c e.2 in
+    let v = bound (nested (steps version) (codes "clock") (codes "vos") d) _ c e.2 in
     let ps = nested_keeps (AreSome pll_dividers) (some_among pll_dividers) (codes "clock") (codes "p") d p.0 (λ path w k. some_keep pll_dividers path w p.0 k) p.1 in
     let hs = dividers_keep ahb_dividers (codes "hpre") d a.0 a.1 in
     let bs = dividers_keep apb_dividers (codes "ppre1") d b.0 b.1 in
     let es = dividers_keep apb_dividers (codes "ppre2") d e.0 e.1 in
-    let vs = dividers_keep known_scales (codes "vos") d v.0 v.1 in
-    let fine : AreDomains (record { hpre = a.0; p = p.0; m = m.0; n = n.0; q = q.0; ppre1 = b.0; ppre2 = e.0; vos = v.0 }) = record {
+    let vs = nested_keeps (AreSteps (known_steps version)) (steps version) (codes "clock") (codes "vos") d v.0 (λ path w k. steps_keep version path w v.0 k) v.1 in
+    let fine : AreDomains version (record { hpre = a.0; p = p.0; m = m.0; n = n.0; q = q.0; ppre1 = b.0; ppre2 = e.0; vos = v.0 }) = record {
       m = range_keeps 2 63 (codes "clock") (codes "m") d m.0 m.1;
       n = range_keeps 50 432 (codes "clock") (codes "n") d n.0 n.1;
       q = range_keeps 2 15 (codes "clock") (codes "q") d q.0 q.1;
@@ -158,10 +196,11 @@ clock_keeps d c h =
       ppre1_one = bs.one;
       ppre2 = es.among;
       ppre2_one = es.one;
-      vos = vs.among;
-      vos_one = vs.one;
+      vos = vs.with_one.among;
+      vos_one = vs.with_one.one;
+      vos_two = vs.two;
     } in
-    subst AreDomains (same_ok (record { hpre = a.0; p = p.0; m = m.0; n = n.0; q = q.0; ppre1 = b.0; ppre2 = e.0; vos = v.0 }) c v.2) fine
+    subst (AreDomains version) (same_ok (record { hpre = a.0; p = p.0; m = m.0; n = n.0; q = q.0; ppre1 = b.0; ppre2 = e.0; vos = v.0 }) c v.2) fine
 
 -- ---- the limits
 
@@ -197,3 +236,71 @@ limits_keep d b h =
       pclk2 = most_keeps 1 84000000 (codes "limits") (codes "pclk2") d q.0 q.1;
     } in
     subst AreRead (same_ok (record { crystal = c.0; bypass = y.0; vco_in = i.0; vco = v.0; sysclk = s.0; pclk1 = p.0; pclk2 = q.0 }) b q.2) fine
+
+-- ---- the limits with over-drive
+
+pub record AreReadSpeeds (o : Over) : Type 0 where
+  pub sysclk : o.sysclk ≤ 180000000
+  pub pclk1 : o.pclk1 ≤ 45000000
+  pub pclk2 : o.pclk2 ≤ 90000000
+
+at_most_keeps : (high : ℕ) (path key : List ℕ) (d : Data) (n : ℕ) → member (number_within 1 high) path key d ≡ Ok n → n ≤ high
+at_most_keeps high path key d n h = need_keeps (λ (k : ℕ). k ≤ high) (number_within 1 high) (below path key) (get key d) n (λ v e. (number_keeps 1 high (below path key) v n e).1) h
+
+over_keeps : (path : List ℕ) (d : Data) (o : Over) → over_form path d ≡ Ok o → AreReadSpeeds o
+unfolding over_form
+over_keeps path d o h =
+    let w = bound (object path d) _ o h in
+    let s = bound (member (number_within 1 180000000) path (codes "sysclk") w.0) _ o w.2 in
+    let p = bound (member (number_within 1 45000000) path (codes "pclk1") w.0) _ o s.2 in
+    let q = bound (member (number_within 1 90000000) path (codes "pclk2") w.0) _ o p.2 in
+    let fine : AreReadSpeeds (record { sysclk = s.0; pclk1 = p.0; pclk2 = q.0 }) = record {
+      sysclk = at_most_keeps 180000000 path (codes "sysclk") w.0 s.0 s.1;
+      pclk1 = at_most_keeps 45000000 path (codes "pclk1") w.0 p.0 p.1;
+      pclk2 = at_most_keeps 90000000 path (codes "pclk2") w.0 q.0 q.1;
+    } in
+    subst AreReadSpeeds (same_ok (record { sysclk = s.0; pclk1 = p.0; pclk2 = q.0 }) o q.2) fine
+
+-- what is read of a table of this version: none in version 1, and some in others
+abbrev pub HasRead : ℕ → Option Over → Type 0
+HasRead version None = version ≡ 1
+HasRead version (Some o) = (version ≢ 1) × AreReadSpeeds o
+
+abbrev pub IsReadSome : Option Over → Type 0
+IsReadSome None = ⊥
+IsReadSome (Some o) = AreReadSpeeds o
+
+some_over_keeps : (path : List ℕ) (d : Data) (o : Option Over) → some_over path d ≡ Ok o → IsReadSome o
+unfolding some_over
+some_over_keeps path d o h =
+    let w = bound (over_form path d) _ o h in
+    subst IsReadSome (same_ok (Some w.0) o w.2) (over_keeps path d w.0 w.1)
+
+read_some : (version : ℕ) (o : Option Over) → version ≢ 1 → IsReadSome o → HasRead version o
+read_some version None n h = absurd h
+read_some version (Some o) n h = (n, h)
+
+over_if : (version : ℕ) (d : Data) (o : Option Over) (b : Bool) → eqb version 1 ≡ b → cond b (reads None) (nested some_over (codes "limits") (codes "over") d) ≡ Ok o → HasRead version o
+over_if version d o true e h = subst (HasRead version) (same_ok None o h) (eqb-true version 1 e)
+over_if version d o false e h =
+    read_some version o (λ s. differ_bool (eq-eqb version 1 s) e)
+    (nested_keeps IsReadSome some_over (codes "limits") (codes "over") d o (λ path w k. some_over_keeps path w o k) h)
+  where
+    differ_bool : {b : Bool} → b ≡ true → b ≡ false → ⊥
+    differ_bool h k = cc
+
+over_read : (version : ℕ) (d : Data) (o : Option Over) → over version d ≡ Ok o → HasRead version o
+unfolding over
+over_read version d o h = over_if version d o (eqb version 1) refl h
+
+pub record AreAllRead (version : ℕ) (p : Bounds × Option Over) : Type 0 where
+  pub plain : AreRead p.0
+  pub over : HasRead version p.1
+
+pub all_limits_keep : (version : ℕ) (d : Data) (p : Bounds × Option Over) → all_limits version d ≡ Ok p → AreAllRead version p
+unfolding all_limits
+all_limits_keep version d p h =
+    let a = bound (limits d) _ p h in
+    let b = bound (over version d) _ p a.2 in
+    let fine : AreAllRead version (a.0, b.0) = record { plain = limits_keep d a.0 a.1; over = over_read version d b.0 b.1 } in
+    subst (AreAllRead version) (same_ok (a.0, b.0) p b.2) fine

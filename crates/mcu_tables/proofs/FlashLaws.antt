@@ -8,6 +8,7 @@ use Rattle.res_base.specs.Lists.{Each, Member, Pairwise}
 use Rattle.res_base.proofs.ListLemmas.{each_push, each_map}
 use Rattle.res_model.specs.Steps.{◌>>=◌}
 use Rattle.mcu_tables.specs.Json.{number}
+use Rattle.res_model.specs.ClockValues.{widest_hclk}
 use Rattle.mcu_tables.specs.Table.{below, due, must, need, member, nested, object, object_if_there, flag, list, number_within, number_among, above, is_above_last, is_after, flash_from, flash_to, flash_range, scale, scales, source_of, pll_source_of, source_form, pll_source_form, default_sources, default_factors, default_buses, defaults}
 use Rattle.res_model.specs.Valid.{IsWithin, AreDefaults}
 use Rattle.mcu_tables.proofs.TableLaws.{bound, reads, same_ok, due_some, must_holds, need_keeps, number_keeps, among_keeps, Kept, list_keeps}
@@ -27,7 +28,7 @@ abbrev pub numbers : List Scale → List ℕ
 numbers ss = map (λ (s : Scale). s.vos) ss
 
 abbrev pub IsMax : Scale → Type 0
-IsMax s = s.max ≤ 168000000
+IsMax s = s.max ≤ widest_hclk s.vos
 
 pub record AsDue (vos : List ℕ) (ss : List Scale) : Type 0 where
   pub order : length ss ≤ length vos → numbers ss ≡ take (length ss) vos
@@ -55,9 +56,9 @@ scale_keeps vos before path d s kept h =
     let v = slice_index vos (length before) in
     let o = bound (object path d) _ s h in
     let n = bound (member (number_within v v) path (codes "vos") o.0) _ s o.2 in
-    let m = bound (member (number_within 1 168000000) path (codes "max") o.0) _ s n.2 in
+    let m = bound (member (number_within 1 (widest_hclk n.0)) path (codes "max") o.0) _ s n.2 in
     let r = need_keeps (λ (k : ℕ). (v ≤ k) × (k ≤ v)) (number_within v v) (below path (codes "vos")) (get (codes "vos") o.0) n.0 (λ w e. number_keeps v v (below path (codes "vos")) w n.0 e) n.1 in
-    let g = need_keeps (λ (k : ℕ). k ≤ 168000000) (number_within 1 168000000) (below path (codes "max")) (get (codes "max") o.0) m.0 (λ w e. (number_keeps 1 168000000 (below path (codes "max")) w m.0 e).1) m.1 in
+    let g = need_keeps (λ (k : ℕ). k ≤ widest_hclk n.0) (number_within 1 (widest_hclk n.0)) (below path (codes "max")) (get (codes "max") o.0) m.0 (λ w e. (number_keeps 1 (widest_hclk n.0) (below path (codes "max")) w m.0 e).1) m.1 in
     let same : n.0 ≡ v = omega (arith, r.0, r.1) in
     let is = same_ok (record { vos = n.0; max = m.0 }) s m.2 in
     let named : s.vos ≡ v = sym (ap (λ (x : Scale). x.vos) is) ∙ same in

@@ -8,12 +8,13 @@ use Rattle.res_base.proofs.ListLemmas.{each_map}
 use Rattle.res_model.specs.Steps.{◌>>=◌}
 use Rattle.mcu_tables.specs.Json.{json_of}
 use Rattle.res_model.specs.ClockValues.{hsi}
-use Rattle.mcu_tables.specs.Table.{below, due, need, top, text, number_within, list, distinct_text, pin, signal, ip, clock, limits, scales, flash_range, defaults, reset_fault, unless_illegal, legal, hse_names, supply, table, tables_of}
-use Rattle.res_model.specs.Valid.{IsText, ArePins, AreSignals, AreIps, AreBounds, IsScale, AreScales, IsFlashRange, AreFlash, IsValid}
-use Rattle.mcu_tables.proofs.TableLaws.{bound, reads, same_ok, need_keeps, none_passes, text_keeps, Kept, list_keeps}
+use Rattle.res_model.specs.Power.{over_speeds, plain_speeds, speeds_at}
+use Rattle.mcu_tables.specs.Table.{below, due, need, top, text, number_within, list, distinct_text, pin, signal, ip, clock, all_limits, scales, flash_range, defaults, is_low, reset_fault, unless_illegal, legal, hse_names, supply, table, tables_of}
+use Rattle.res_model.specs.Valid.{IsText, ArePins, AreSignals, AreIps, AreBounds, AreSpeeds, HasOver, IsScale, AreScales, IsFlashRange, AreFlash, IsValid}
+use Rattle.mcu_tables.proofs.TableLaws.{bound, reads, same_ok, need_keeps, none_passes, neither, text_keeps, number_keeps, Kept, list_keeps}
 use Rattle.mcu_tables.proofs.PinLaws.{AreKept, pins_keep}
 use Rattle.mcu_tables.proofs.SignalLaws.{signals_keep, ips_keep}
-use Rattle.mcu_tables.proofs.ClockLaws.{DifferTexts, distinct_keeps, clock_keeps, AreRead, limits_keep}
+use Rattle.mcu_tables.proofs.ClockLaws.{DifferTexts, distinct_keeps, clock_keeps, AreRead, AreReadSpeeds, HasRead, all_limits_keep}
 use Rattle.mcu_tables.proofs.FlashLaws.{IsMax, AreReadScales, scales_keep, IsReadRange, IsBelow, flash_keeps, defaults_keep}
 use Rattle.serde_json.specs.Data.{Data}
 use Rattle.serde_json.specs.Find.{get}
@@ -22,6 +23,7 @@ use Rattle.mcu_tables.specs.declared.fault.TableFault.TheVariants.{NotJson}
 use Rattle.res_model.specs.declared.table.Bounds.{Bounds}
 use Rattle.res_model.specs.declared.table.Scale.{Scale}
 use Rattle.res_model.specs.declared.table.FlashRange.{FlashRange}
+use Rattle.res_model.specs.declared.table.Over.{Over}
 use Rattle.res_model.specs.declared.table.TableParts.{TableParts}
 
 top_keeps : {X : Type 0} (P : X → Type 0) (form : List ℕ → Data → Result X TableFault) (key : List ℕ) (d : Data) (x : X) → ((path : List ℕ) (v : Data) → form path v ≡ Ok x → P x) → top form key d ≡ Ok x → P x
@@ -61,32 +63,44 @@ skipped false x rest h = (refl, h)
 not_below : (a b : ℕ) → nat_lt a b ≡ false → b ≤ a
 not_below a b h = grind (arith, nat_tests)
 
+-- limits that are not below the HSI
+record AreAbove (o : Over) : Type 0 where
+  pub sysclk : hsi ≤ o.sysclk
+  pub pclk1 : hsi ≤ o.pclk1
+  pub pclk2 : hsi ≤ o.pclk2
+
 record IsLegal (t : TableParts) : Type 0 where
-  pub sysclk : hsi ≤ t.limits.sysclk
+  pub plain : AreAbove (plain_speeds t.limits)
+  pub over : AreAbove (over_speeds t.over (plain_speeds t.limits))
   pub scales : Each (λ (s : Scale). hsi ≤ s.max) t.scales
-  pub pclk1 : hsi ≤ t.limits.pclk1
-  pub pclk2 : hsi ≤ t.limits.pclk2
   pub flash : Each (λ (r : FlashRange). hsi ≤ slice_index r.rows 0) t.flash
 
+not_low : (limit : Over → ℕ) (t : TableParts) → is_low limit t ≡ false → (hsi ≤ limit (speeds_at t 1)) × (hsi ≤ limit (speeds_at t 4))
+not_low limit t h =
+    let n = neither (nat_lt (limit (speeds_at t 1)) hsi) (nat_lt (limit (speeds_at t 4)) hsi) h in
+    (not_below (limit (speeds_at t 1)) hsi n.0, not_below (limit (speeds_at t 4)) hsi n.1)
+
 reset_legal : (t : TableParts) → reset_fault t ≡ None → IsLegal t
-unfolding reset_fault
+unfolding reset_fault speeds_at
 reset_legal t h =
     let low_scale = list_any (λ s. nat_lt s.max hsi) t.scales in
     let low_row = list_any (λ r. nat_lt (slice_index r.rows 0) hsi) t.flash in
     let flash : Option ℕ = if low_row then Some 13 else None in
-    let pclk2 : Option ℕ = if nat_lt t.limits.pclk2 hsi then Some 9 else flash in
-    let pclk1 : Option ℕ = if nat_lt t.limits.pclk1 hsi then Some 8 else pclk2 in
+    let pclk2 : Option ℕ = if is_low (λ o. o.pclk2) t then Some 9 else flash in
+    let pclk1 : Option ℕ = if is_low (λ o. o.pclk1) t then Some 8 else pclk2 in
     let scales : Option ℕ = if low_scale then Some 7 else pclk1 in
-    let a = skipped (nat_lt t.limits.sysclk hsi) 6 scales h in
+    let a = skipped (is_low (λ o. o.sysclk) t) 6 scales h in
     let b = skipped low_scale 7 pclk1 a.1 in
-    let c = skipped (nat_lt t.limits.pclk1 hsi) 8 pclk2 b.1 in
-    let d = skipped (nat_lt t.limits.pclk2 hsi) 9 flash c.1 in
+    let c = skipped (is_low (λ o. o.pclk1) t) 8 pclk2 b.1 in
+    let d = skipped (is_low (λ o. o.pclk2) t) 9 flash c.1 in
     let e = skipped low_row 13 None d.1 in
+    let s = not_low (λ o. o.sysclk) t a.0 in
+    let p = not_low (λ o. o.pclk1) t c.0 in
+    let q = not_low (λ o. o.pclk2) t d.0 in
     record {
-      sysclk = not_below t.limits.sysclk hsi a.0;
+      plain = record { sysclk = s.0; pclk1 = p.0; pclk2 = q.0 };
+      over = record { sysclk = s.1; pclk1 = p.1; pclk2 = q.1 };
       scales = each_map (λ s. nat_lt s.max hsi ≡ false) (λ (s : Scale). hsi ≤ s.max) t.scales (λ s k. not_below s.max hsi k) (none_passes (λ s. nat_lt s.max hsi) t.scales b.0);
-      pclk1 = not_below t.limits.pclk1 hsi c.0;
-      pclk2 = not_below t.limits.pclk2 hsi d.0;
       flash = each_map (λ r. nat_lt (slice_index r.rows 0) hsi ≡ false) (λ (r : FlashRange). hsi ≤ slice_index r.rows 0) t.flash (λ r k. not_below (slice_index r.rows 0) hsi k) (none_passes (λ r. nat_lt (slice_index r.rows 0) hsi) t.flash e.0);
     }
 
@@ -107,6 +121,16 @@ each_both P Q (x ∷ xs) p q = ((p.0, q.0), each_both P Q xs p.1 q.1)
 bounds_of : (b : Bounds) → AreRead b → hsi ≤ b.sysclk → hsi ≤ b.pclk1 → hsi ≤ b.pclk2 → AreBounds b
 bounds_of b r s p q = record { crystal = r.crystal; bypass = r.bypass; vco_in = r.vco_in; vco = r.vco; sysclk = r.sysclk; pclk1 = r.pclk1; pclk2 = r.pclk2; reset_sysclk = s; reset_pclk1 = p; reset_pclk2 = q }
 
+speeds_of : (o : Over) → AreReadSpeeds o → AreAbove o → AreSpeeds o
+speeds_of o r a = record { sysclk = r.sysclk; pclk1 = r.pclk1; pclk2 = r.pclk2; reset_sysclk = a.sysclk; reset_pclk1 = a.pclk1; reset_pclk2 = a.pclk2 }
+
+over_of : (version : ℕ) (o : Option Over) (plain : Over) → (1 ≤ version) × (version ≤ 2) → HasRead version o → AreAbove (over_speeds o plain) → HasOver version o
+over_of version None plain v r a = r
+over_of version (Some o) plain v r a = (two version v r.0, speeds_of o r.1 a)
+  where
+    two : (n : ℕ) → (1 ≤ n) × (n ≤ 2) → n ≢ 1 → n ≡ 2
+    two n b other = grind (arith, b.0, b.1, other)
+
 scales_of : (vos : List ℕ) (ss : List Scale) → AreReadScales vos ss → Each (λ (s : Scale). hsi ≤ s.max) ss → AreScales vos ss
 scales_of vos ss r h = record { order = r.order; each = each_both (λ (s : Scale). hsi ≤ s.max) IsMax ss h r.each }
 
@@ -125,22 +149,24 @@ flash_of rs k h = record {
 pub table_keeps : (d : Data) (t : TableParts) → table d ≡ Ok t → IsValid t
 unfolding table
 table_keeps d t h =
-    let v = bound (top (number_within 1 1) (codes "version") d) _ t h in
+    let v = bound (top (number_within 1 2) (codes "version") d) _ t h in
     let n = bound (top (list 1 64 distinct_text) (codes "names") d) _ t v.2 in
     let g = bound (top text (codes "package") d) _ t n.2 in
     let p = bound (top (list 0 144 pin) (codes "pins") d) _ t g.2 in
     let s = bound (top (list 0 2000 (signal p.0)) (codes "signals") d) _ t p.2 in
     let o = bound (hse_names d) _ t s.2 in
     let i = bound (top (list 0 64 ip) (codes "ips") d) _ t o.2 in
-    let c = bound (clock d) _ t i.2 in
-    let l = bound (limits d) _ t c.2 in
+    let c = bound (clock v.0 d) _ t i.2 in
+    let l = bound (all_limits v.0 d) _ t c.2 in
     let b = bound (supply c.0.vos d) _ t l.2 in
     let w = bound (defaults c.0 d) _ t b.2 in
-    let u : TableParts = record { names = n.0; «package» = g.0; pins = p.0; signals = s.0; hse_in = o.0.0; hse_out = o.0.1; ips = i.0; clock = c.0; limits = l.0; scales = b.0.0; flash = b.0.1; defaults = w.0.0; hse_hz = w.0.1 } in
+    let u : TableParts = record { version = v.0; names = n.0; «package» = g.0; pins = p.0; signals = s.0; hse_in = o.0.0; hse_out = o.0.1; ips = i.0; clock = c.0; limits = l.0.0; over = l.0.1; scales = b.0.0; flash = b.0.1; defaults = w.0.0; hse_hz = w.0.1 } in
     let last = legal_keeps u t w.2 in
     let fair : IsLegal u = reset_legal u last.0 in
     let names = top_keeps (Kept (AreKept IsText DifferTexts) 1 64) (list 1 64 distinct_text) (codes "names") d n.0 (λ path x e. list_keeps (AreKept IsText DifferTexts) 1 64 distinct_text path x n.0 (tt, tt) distinct_keeps e) n.1 in
     let texts = hse_names_keep d o.0 o.1 in
+    let version = top_keeps (λ (k : ℕ). (1 ≤ k) × (k ≤ 2)) (number_within 1 2) (codes "version") d v.0 (λ path x e. number_keeps 1 2 path x v.0 e) v.1 in
+    let limits = all_limits_keep v.0 d l.0 l.1 in
     let power = supply_keeps c.0.vos d b.0 b.1 in
     let values = defaults_keep c.0 d w.0 w.1 in
     let fine : IsValid u = record {
@@ -154,8 +180,9 @@ table_keeps d t h =
       hse_in = texts.0;
       hse_out = texts.1;
       ips = top_keeps AreIps (list 0 64 ip) (codes "ips") d i.0 (λ path x e. ips_keep path x i.0 e) i.1;
-      clock = clock_keeps d c.0 c.1;
-      limits = bounds_of l.0 (limits_keep d l.0 l.1) fair.sysclk fair.pclk1 fair.pclk2;
+      clock = clock_keeps v.0 d c.0 c.1;
+      limits = bounds_of l.0.0 limits.plain fair.plain.sysclk fair.plain.pclk1 fair.plain.pclk2;
+      over = over_of v.0 l.0.1 (plain_speeds l.0.0) version limits.over fair.over;
       scales = scales_of c.0.vos b.0.0 power.0 fair.scales;
       flash = flash_of b.0.1 power.1 fair.flash;
       defaults = values.0;

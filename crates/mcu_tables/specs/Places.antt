@@ -4,9 +4,9 @@ use Rattle.mcu_tables.specs.Table.{below}
 use Rattle.mcu_tables.specs.declared.fault.TableFault.{TableFault}
 use Rattle.mcu_tables.specs.declared.fault.TableFault.TheVariants as fault
 use Rattle.mcu_tables.specs.declared.place.Key.{Key}
-use Rattle.mcu_tables.specs.declared.place.Key.TheVariants.{Version, Names, Package, Pins, Signals, Name, Use, Ip, Drain, At, HseIn, HseOut, Ips, Clock48, Floor, Marks, Clock, M, N, Q, P, Hpre, Ppre1, Ppre2, Vos, Limits, Crystal, Bypass, VcoIn, Vco, Sysclk, Pclk1, Pclk2, Scales, Max, Flash, From, To, Prefetch, Rows, Defaults, Src, Psrc, Hse, Dma}
+use Rattle.mcu_tables.specs.declared.place.Key.TheVariants.{Version, Names, Package, Pins, Signals, Name, Use, Ip, Drain, At, HseIn, HseOut, Ips, Clock48, Floor, Marks, Clock, M, N, Q, P, Hpre, Ppre1, Ppre2, Vos, Limits, Crystal, Bypass, VcoIn, Vco, Sysclk, Pclk1, Pclk2, Over, Scales, Max, Flash, From, To, Prefetch, Rows, Defaults, Src, Psrc, Hse, Dma}
 use Rattle.mcu_tables.specs.declared.place.Spot.{Spot}
-use Rattle.mcu_tables.specs.declared.place.Spot.TheVariants.{Top, Nested, Inner}
+use Rattle.mcu_tables.specs.declared.place.Spot.TheVariants.{Top, Nested, Deep, Inner}
 use Rattle.mcu_tables.specs.declared.place.Place.{Place}
 use Rattle.mcu_tables.specs.declared.place.Place.TheVariants.{Member, Entry}
 use Rattle.mcu_tables.specs.declared.place.Flaw.{Flaw}
@@ -46,6 +46,7 @@ spelling Vco = codes "vco"
 spelling Sysclk = codes "sysclk"
 spelling Pclk1 = codes "pclk1"
 spelling Pclk2 = codes "pclk2"
+spelling Over = codes "over"
 spelling Scales = codes "scales"
 spelling Max = codes "max"
 spelling Flash = codes "flash"
@@ -63,6 +64,7 @@ spelling Dma = codes "dma"
 abbrev pub path_of : Spot → List ℕ
 path_of (Top k) = below [] (spelling k)
 path_of (Nested g k) = below (below [] (spelling g)) (spelling k)
+path_of (Deep g h k) = below (below (below [] (spelling g)) (spelling h)) (spelling k)
 path_of (Inner l i k) = below (below (below [] (spelling l)) (decimal i)) (spelling k)
 
 -- the path of an entry of a list

@@ -3,7 +3,8 @@ use Rattle.std.specs.Prelude.{◌≡◌, ℕ, ◌==◌, ◌-◌, ◌+◌, ◌^�
 use Rattle.std.specs.List.{list_any}
 use Rattle.std.specs.Str.{bytes_eq}
 use Rattle.res_model.specs.Steps.{◌>>=◌}
-use Rattle.res_model.specs.ClockValues.{ahb_dividers, apb_dividers, pll_dividers, known_scales, hsi}
+use Rattle.res_model.specs.ClockValues.{ahb_dividers, apb_dividers, pll_dividers, known_steps, widest_hclk, hsi}
+use Rattle.res_model.specs.Power.{speeds_at}
 use Rattle.res_model.specs.PinNames.{spot, place}
 use Rattle.mcu_tables.specs.Json.{json_of, is_object, inside, entries, two, number, word}
 use Rattle.mcu_tables.specs.declared.fault.TableFault.{TableFault}
@@ -22,6 +23,7 @@ use Rattle.res_model.specs.declared.table.Domains.{Domains}
 use Rattle.res_model.specs.declared.table.Bounds.{Bounds}
 use Rattle.res_model.specs.declared.table.Scale.{Scale}
 use Rattle.res_model.specs.declared.table.FlashRange.{FlashRange}
+use Rattle.res_model.specs.declared.table.Over.{Over}
 use Rattle.res_model.specs.declared.table.TableParts.{TableParts}
 use Rattle.serde_json.specs.Data.{Data}
 use Rattle.serde_json.specs.Find.{get, as_str, as_bool}
@@ -291,8 +293,18 @@ ip before path d = do
 
 -- ---- clocks and limits
 
-unfoldable pub clock : Data → Result Domains TableFault
-clock d = do
+-- one that has scale 2 with over-drive has scale 2 without it too
+abbrev pub are_paired : List ℕ → Bool
+are_paired steps = not (list_any (λ n. n == 5) steps) || list_any (λ n. n == 2) steps
+
+-- the power steps of a part, by the version of its table
+unfoldable pub steps : ℕ → Form (List ℕ)
+steps version path d = do
+  ns ← one_among (known_steps version) path d
+  must (BadField path) (are_paired ns) ns
+
+unfoldable pub clock : ℕ → Data → Result Domains TableFault
+clock version d = do
   m ← nested (pair_within 2 63) (codes "clock") (codes "m") d
   n ← nested (pair_within 50 432) (codes "clock") (codes "n") d
   q ← nested (pair_within 2 15) (codes "clock") (codes "q") d
@@ -300,7 +312,7 @@ clock d = do
   hpre ← nested (one_among ahb_dividers) (codes "clock") (codes "hpre") d
   ppre1 ← nested (one_among apb_dividers) (codes "clock") (codes "ppre1") d
   ppre2 ← nested (one_among apb_dividers) (codes "clock") (codes "ppre2") d
-  vos ← nested (one_among known_scales) (codes "clock") (codes "vos") d
+  vos ← nested (steps version) (codes "clock") (codes "vos") d
   Ok (record { hpre = hpre; p = p; m = m; n = n; q = q; ppre1 = ppre1; ppre2 = ppre2; vos = vos })
 
 unfoldable pub limits : Data → Result Bounds TableFault
@@ -314,17 +326,42 @@ limits d = do
   pclk2 ← nested (number_within 1 84000000) (codes "limits") (codes "pclk2") d
   Ok (record { crystal = crystal; bypass = bypass; vco_in = vco_in; vco = vco; sysclk = sysclk; pclk1 = pclk1; pclk2 = pclk2 })
 
+-- the limits with over-drive
+unfoldable pub over_form : Form Over
+over_form path d = do
+  o ← object path d
+  sysclk ← member (number_within 1 180000000) path (codes "sysclk") o
+  pclk1 ← member (number_within 1 45000000) path (codes "pclk1") o
+  pclk2 ← member (number_within 1 90000000) path (codes "pclk2") o
+  Ok (record { sysclk = sysclk; pclk1 = pclk1; pclk2 = pclk2 })
+
+unfoldable pub some_over : Form (Option Over)
+some_over path d = do
+  o ← over_form path d
+  Ok (Some o)
+
+-- they have to be there in version 2, and are passed over in version 1
+unfoldable pub over : ℕ → Data → Result (Option Over) TableFault
+over version d = if version == 1 then Ok None else nested some_over (codes "limits") (codes "over") d
+
+-- the limits without over-drive, and those with it
+unfoldable pub all_limits : ℕ → Data → Result (Bounds × Option Over) TableFault
+all_limits version d = do
+  plain ← limits d
+  more ← over version d
+  Ok (plain, more)
+
 -- ---- scales
 
--- the scale that is due, and its greatest HCLK
+-- the power step that is due, and its greatest HCLK
 unfoldable pub scale : List ℕ → EntryForm Scale
 scale vos before path d = do
   o ← object path d
   number ← member (number_within (slice_index vos (length before)) (slice_index vos (length before))) path (codes "vos") o
-  max ← member (number_within 1 168000000) path (codes "max") o
+  max ← member (number_within 1 (widest_hclk number)) path (codes "max") o
   Ok (record { vos = number; max = max })
 
--- one for each scale of the clock's list, in its order
+-- one for each power step of the clock's list, in its order
 abbrev pub scales : List ℕ → Form (List Scale)
 scales vos path d = list (length vos) (length vos) (scale vos) path d
 
@@ -408,13 +445,17 @@ defaults c d = do
 
 -- ---- the state after reset
 
+-- a limit of SYSCLK or of a bus is below the HSI: without over-drive, as at step 1, or with it, as at step 4
+abbrev pub is_low : (Over → ℕ) → TableParts → Bool
+is_low limit t = nat_lt (limit (speeds_at t 1)) hsi || nat_lt (limit (speeds_at t 4)) hsi
+
 -- the least limit that the state after reset would break
 unfoldable pub reset_fault : TableParts → Option ℕ
 reset_fault t =
-    if nat_lt t.limits.sysclk hsi then Some 6 else
+    if is_low (λ o. o.sysclk) t then Some 6 else
     (if list_any (λ s. nat_lt s.max hsi) t.scales then Some 7 else
-    (if nat_lt t.limits.pclk1 hsi then Some 8 else
-    (if nat_lt t.limits.pclk2 hsi then Some 9 else
+    (if is_low (λ o. o.pclk1) t then Some 8 else
+    (if is_low (λ o. o.pclk2) t then Some 9 else
     (if list_any (λ r. nat_lt (slice_index r.rows 0) hsi) t.flash then Some 13 else None))))
 
 abbrev pub unless_illegal : Option ℕ → TableParts → Result TableParts TableFault
@@ -433,7 +474,7 @@ hse_names d = do
   hse_out ← top text (codes "hse_out") d
   Ok (hse_in, hse_out)
 
--- what the supply allows: the scales of the clock's list, and the flash ranges
+-- what the supply allows: the greatest HCLK at each power step of the clock's list, and the flash ranges
 unfoldable pub supply : List ℕ → Data → Result (List Scale × List FlashRange) TableFault
 supply vos d = do
   ss ← top (scales vos) (codes "scales") d
@@ -442,18 +483,18 @@ supply vos d = do
 
 unfoldable pub table : Data → Result TableParts TableFault
 table d = do
-  version ← top (number_within 1 1) (codes "version") d
+  version ← top (number_within 1 2) (codes "version") d
   names ← top (list 1 64 distinct_text) (codes "names") d
   parcel ← top text (codes "package") d
   pins ← top (list 0 144 pin) (codes "pins") d
   signals ← top (list 0 2000 (signal pins)) (codes "signals") d
   hse ← hse_names d
   ips ← top (list 0 64 ip) (codes "ips") d
-  clock ← clock d
-  limits ← limits d
+  clock ← clock version d
+  limits ← all_limits version d
   power ← supply clock.vos d
   values ← defaults clock d
-  legal (record { names = names; «package» = parcel; pins = pins; signals = signals; hse_in = hse.0; hse_out = hse.1; ips = ips; clock = clock; limits = limits; scales = power.0; flash = power.1; defaults = values.0; hse_hz = values.1 })
+  legal (record { version = version; names = names; «package» = parcel; pins = pins; signals = signals; hse_in = hse.0; hse_out = hse.1; ips = ips; clock = clock; limits = limits.0; over = limits.1; scales = power.0; flash = power.1; defaults = values.0; hse_hz = values.1 })
 
 unfoldable pub tables_of : List ℕ → Result TableParts TableFault
 tables_of bytes = do

@@ -1,20 +1,21 @@
-ghost use Rattle.std.specs.Prelude.{◌≡◌, ◌≤◌, ◌<◌, List, [], ◌∷◌, codes, map, length, option_map, IfOk};
-ghost use Rattle.res_model.specs.ClockValues.{pll_dividers, ahb_dividers, apb_dividers, known_scales};
-ghost use Rattle.mcu_tables.specs.Table.{nested, pair_within, number_within, some_among, one_among, clock, limits};
+ghost use Rattle.std.specs.Prelude.{◌≡◌, ◌≤◌, ◌<◌, ◌==◌, List, [], ◌∷◌, codes, map, length, option_map, IfOk};
+ghost use Rattle.std.specs.List.{list_any};
+ghost use Rattle.res_model.specs.ClockValues.{pll_dividers, ahb_dividers, apb_dividers, known_steps};
+ghost use Rattle.mcu_tables.specs.Table.{nested, member, pair_within, number_within, some_among, one_among, are_paired, steps, clock, limits, over_form, some_over, over, all_limits};
 ghost use Rattle.serde_json.specs.View.{view};
 ghost use Rattle.mcu_tables.specs.Places.{spelling, path_of, Reads};
 
-use crate::forms::{number_at, pair_at};
-use crate::json::nested;
+use crate::forms::{check_object, number_at, pair_at};
+use crate::json::{member_of, needed, nested};
 use crate::lists::{one_among, some_among};
 use crate::place::{Flaw, Key, Place, Spot};
 use res_base::Items;
-use res_model::{Bounds, Domains};
+use res_model::{Bounds, Domains, Over};
 use serde_json::Value;
 use std::alloc::Global;
 
 /// The dividers of AHB, those of APB1 and APB2 (RM0090, RCC_CFGR), those of the PLL's output
-/// (RCC_PLLCFGR), and the scales (PWR_CR).
+/// (RCC_PLLCFGR), and the power steps of parts without over-drive and of parts with it (PWR_CR).
 const AHB: [u16; 9] = [1, 2, 4, 8, 16, 64, 128, 256, 512];
 
 const APB: [u16; 5] = [1, 2, 4, 8, 16];
@@ -22,6 +23,8 @@ const APB: [u16; 5] = [1, 2, 4, 8, 16];
 const PLL: [u16; 4] = [2, 4, 6, 8];
 
 const SCALES: [u16; 2] = [1, 2];
+
+const STEPS: [u16; 5] = [1, 2, 3, 4, 5];
 
 fn clock_pair(root: &Value, key: Key, low: u16, high: u16) -> Result<(u16, u16), Flaw>
     ensures { Reads (λ p. p) result (nested (pair_within low high) (spelling Key.Clock) (spelling key) (view root.now)) }
@@ -46,10 +49,49 @@ fn pll_list(alloc: Global, root: &Value) -> Result<Items<u16>, Flaw>
     some_among(alloc, &PLL, Spot::Nested(Key::Clock, Key::P), value)
 }
 
-/// The domains of the clock variables.
+/// The power steps that parts of a table's version have.
+fn known_steps(version: u8) -> &'static [u16]
+    ensures { result.now ≡ known_steps version }
+{
+    if version == 1 { &SCALES } else { &STEPS }
+}
+
+fn has_step(steps: &[u16], step: u16) -> bool
+    ensures { result ≡ list_any (λ n. n == step) steps.now }
+{
+    steps.iter().any(|n| *n == step)
+}
+
+/// Whether power steps with scale 2 under over-drive have scale 2 without it too.
+fn are_paired(steps: &[u16]) -> bool
+    ensures { result ≡ are_paired steps.now }
+{
+    !has_step(steps, 5) || has_step(steps, 2)
+}
+
+#[tactic(auto, unfolding(crate::specs::Table::steps))]
+fn steps_at(alloc: Global, version: u8, at: Spot, value: &Value) -> Result<Items<u16>, Flaw>
+    ensures { Reads (λ v. v) result (steps version (path_of at) (view value.now)) }
+{
+    let steps = one_among(alloc, known_steps(version), at, value)?;
+    if are_paired(steps.as_slice()) {
+        Ok(steps)
+    } else {
+        Err(Flaw::BadField(Place::Member(at)))
+    }
+}
+
+fn step_list(alloc: Global, version: u8, root: &Value) -> Result<Items<u16>, Flaw>
+    ensures { Reads (λ v. v) result (nested (steps version) (codes "clock") (codes "vos") (view root.now)) }
+{
+    let value = nested(root, Key::Clock, Key::Vos)?;
+    steps_at(alloc, version, Spot::Nested(Key::Clock, Key::Vos), value)
+}
+
+/// The domains of the clock variables, by the table's version.
 #[tactic(auto, unfolding(crate::specs::Table::clock))]
-pub fn clock_of(alloc: Global, root: &Value) -> Result<Domains, Flaw>
-    ensures { Reads (λ c. c) result (clock (view root.now)) }
+pub fn clock_of(alloc: Global, version: u8, root: &Value) -> Result<Domains, Flaw>
+    ensures { Reads (λ c. c) result (clock version (view root.now)) }
 {
     let m = clock_pair(root, Key::M, 2, 63)?;
     let n = clock_pair(root, Key::N, 50, 432)?;
@@ -58,7 +100,7 @@ pub fn clock_of(alloc: Global, root: &Value) -> Result<Domains, Flaw>
     let hpre = clock_list(alloc, root, Key::Hpre, &AHB)?;
     let ppre1 = clock_list(alloc, root, Key::Ppre1, &APB)?;
     let ppre2 = clock_list(alloc, root, Key::Ppre2, &APB)?;
-    let vos = clock_list(alloc, root, Key::Vos, &SCALES)?;
+    let vos = step_list(alloc, version, root)?;
     Ok(Domains {
         hpre,
         p,
@@ -87,9 +129,9 @@ fn limit_number(root: &Value, key: Key, high: u64) -> Result<u64, Flaw>
     number_at(1, high, at, value)
 }
 
-/// The limits of the clock tree.
+/// The limits of the clock tree without over-drive.
 #[tactic(auto, unfolding(crate::specs::Table::limits))]
-pub fn limits_of(root: &Value) -> Result<Bounds, Flaw>
+fn limits_of(root: &Value) -> Result<Bounds, Flaw>
     ensures { Reads (λ b. b) result (limits (view root.now)) }
 {
     let crystal = limit_pair(root, Key::Crystal, 4000000, 26000000)?;
@@ -108,4 +150,58 @@ pub fn limits_of(root: &Value) -> Result<Bounds, Flaw>
         pclk1,
         pclk2,
     })
+}
+
+fn over_number(over: &Value, key: Key, high: u64) -> Result<u64, Flaw>
+    ensures { Reads (λ n. n) result (member (number_within 1 high) (path_of (Spot.Nested Key.Limits Key.Over)) (spelling key) (view over.now)) }
+{
+    let at = Spot::Deep(Key::Limits, Key::Over, key);
+    let value = needed(member_of(over, key), at)?;
+    number_at(1, high, Place::Member(at), value)
+}
+
+#[tactic(auto, unfolding(crate::specs::Table::over_form))]
+fn over_at(value: &Value) -> Result<Over, Flaw>
+    ensures { Reads (λ o. o) result (over_form (path_of (Spot.Nested Key.Limits Key.Over)) (view value.now)) }
+{
+    check_object(Place::Member(Spot::Nested(Key::Limits, Key::Over)), value)?;
+    let sysclk = over_number(value, Key::Sysclk, 180000000)?;
+    let pclk1 = over_number(value, Key::Pclk1, 45000000)?;
+    let pclk2 = over_number(value, Key::Pclk2, 90000000)?;
+    Ok(Over {
+        sysclk,
+        pclk1,
+        pclk2,
+    })
+}
+
+#[tactic(auto, unfolding(crate::specs::Table::some_over))]
+fn some_over(root: &Value) -> Result<Option<Over>, Flaw>
+    ensures { Reads (λ o. o) result (nested some_over (codes "limits") (codes "over") (view root.now)) }
+{
+    let value = nested(root, Key::Limits, Key::Over)?;
+    let over = over_at(value)?;
+    Ok(Some(over))
+}
+
+/// The limits with over-drive, which tables of version 1 do not have.
+#[tactic(auto, unfolding(crate::specs::Table::over))]
+fn over_of(version: u8, root: &Value) -> Result<Option<Over>, Flaw>
+    ensures { Reads (λ o. o) result (over version (view root.now)) }
+{
+    if version == 1 {
+        Ok(None)
+    } else {
+        some_over(root)
+    }
+}
+
+/// The limits of the clock tree without over-drive, and those with it.
+#[tactic(auto, unfolding(crate::specs::Table::all_limits))]
+pub fn all_limits(version: u8, root: &Value) -> Result<(Bounds, Option<Over>), Flaw>
+    ensures { Reads (λ p. p) result (all_limits version (view root.now)) }
+{
+    let plain = limits_of(root)?;
+    let over = over_of(version, root)?;
+    Ok((plain, over))
 }

@@ -24,6 +24,6 @@ pub use lists::counted_at;
 pub use place::{Flaw, Key, Place, Spot, spelled_fault};
 pub use read::read_tables;
 pub use res_model::{
-    Bounds, Domains, FlashRange, Ip, Mode, Need48, Pin, PinUse, Role, Scale, TableParts,
-    TableSignal, Tables,
+    Bounds, Domains, FlashRange, Ip, Mode, Need48, Over, Pin, PinUse, Role, Scale, StepLimits,
+    TableParts, TableSignal, Tables,
 };

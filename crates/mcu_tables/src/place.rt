@@ -42,6 +42,7 @@ pub enum Key {
     Sysclk,
     Pclk1,
     Pclk2,
+    Over,
     Scales,
     Max,
     Flash,
@@ -94,6 +95,7 @@ impl Key {
             Key::Sysclk => "sysclk",
             Key::Pclk1 => "pclk1",
             Key::Pclk2 => "pclk2",
+            Key::Over => "over",
             Key::Scales => "scales",
             Key::Max => "max",
             Key::Flash => "flash",
@@ -117,6 +119,8 @@ pub enum Spot {
     Top(Key),
     /// It is a member of a member.
     Nested(Key, Key),
+    /// It is a member of a member of a member.
+    Deep(Key, Key, Key),
     /// It is a member of an entry of a list.
     Inner(Key, usize, Key),
 }
@@ -163,6 +167,11 @@ fn put_spot(alloc: Global, path: &mut String, at: Spot) -> Result<(), OutOfMemor
     match at {
         Spot::Top(key) => put_key(path, key),
         Spot::Nested(group, key) => {
+            put_key(path, group)?;
+            put_key(path, key)
+        }
+        Spot::Deep(outer, group, key) => {
+            put_key(path, outer)?;
             put_key(path, group)?;
             put_key(path, key)
         }

@@ -4,11 +4,11 @@ ghost use Rattle.mcu_tables.specs.TableFaults.{Gives};
 ghost use Rattle.res_model.specs.Valid.{IsValid};
 ghost use Rattle.mcu_tables.specs.declared.fault.TableFault.TheVariants as fault;
 ghost use Rattle.serde_json.specs.Find.{get};
-ghost use Rattle.mcu_tables.specs.Table.{due, top, number_within, list, distinct_text, text, pin, signal, ip, clock, limits, scales, flash_range, defaults, reset_fault, unless_illegal, legal, hse_names, supply, table, tables_of};
+ghost use Rattle.mcu_tables.specs.Table.{due, top, number_within, list, distinct_text, text, pin, signal, ip, clock, all_limits, scales, flash_range, defaults, reset_fault, unless_illegal, legal, hse_names, supply, table, tables_of};
 ghost use Rattle.serde_json.specs.View.{view};
 ghost use Rattle.mcu_tables.specs.Places.{spelling, spelled, path_of, Reads};
 
-use crate::clock::{clock_of, limits_of};
+use crate::clock::{all_limits, clock_of};
 use crate::defaults::defaults_of;
 use crate::fault::TableFault;
 use crate::flash::flash_of;
@@ -33,11 +33,12 @@ fn member(root: &Value, key: Key) -> Result<&Value, Flaw>
     needed(member_of(root, key), Spot::Top(key))
 }
 
-fn version(root: &Value) -> Result<u64, Flaw>
-    ensures { Reads (λ n. n) result (top (number_within 1 1) (codes "version") (view root.now)) }
+fn version(root: &Value) -> Result<u8, Flaw>
+    ensures { Reads (λ n. n) result (top (number_within 1 2) (codes "version") (view root.now)) }
 {
     let value = member(root, Key::Version)?;
-    number_at(1, 1, Place::Member(Spot::Top(Key::Version)), value)
+    let version = number_at(1, 2, Place::Member(Spot::Top(Key::Version)), value)?;
+    Ok(version as u8)
 }
 
 fn names(alloc: Global, root: &Value) -> Result<Items<Text>, Flaw>
@@ -103,7 +104,7 @@ fn flash(alloc: Global, root: &Value) -> Result<Items<FlashRange>, Flaw>
     flash_of(alloc, value)
 }
 
-/// What the supply allows: the scales and the flash ranges.
+/// What the supply allows: the greatest HCLK at each power step, and the flash ranges.
 #[tactic(auto, unfolding(crate::specs::Table::supply))]
 fn supply(
     alloc: Global,
@@ -132,18 +133,19 @@ fn legal(parts: TableParts) -> Result<TableParts, Flaw>
 fn table(alloc: Global, root: &Value) -> Result<TableParts, Flaw>
     ensures { Reads (λ t. t) result (table (view root.now)) }
 {
-    version(root)?;
+    let version = version(root)?;
     let names = names(alloc, root)?;
     let package = top_text(alloc, root, Key::Package)?;
     let pins = pins(alloc, root)?;
     let signals = signals(alloc, pins.as_slice(), root)?;
     let (hse_in, hse_out) = hse_names(alloc, root)?;
     let ips = ips(alloc, root)?;
-    let clock = clock_of(alloc, root)?;
-    let limits = limits_of(root)?;
+    let clock = clock_of(alloc, version, root)?;
+    let (limits, over) = all_limits(version, root)?;
     let (scales, flash) = supply(alloc, clock.vos.as_slice(), root)?;
     let (defaults, hse_hz) = defaults_of(&clock, root)?;
     legal(TableParts {
+        version,
         names,
         package,
         pins,
@@ -153,6 +155,7 @@ fn table(alloc: Global, root: &Value) -> Result<TableParts, Flaw>
         ips,
         clock,
         limits,
+        over,
         scales,
         flash,
         defaults,

@@ -1,12 +1,19 @@
-ghost use Rattle.std.specs.Prelude.{◌≡◌, ◌≤◌, ◌<◌, List, [], ◌∷◌, length, nat_lt, slice_index};
+ghost use Rattle.std.specs.Prelude.{◌≡◌, ◌≤◌, ◌<◌, ◌||◌, List, [], ◌∷◌, length, nat_lt, slice_index};
 ghost use Rattle.std.specs.List.{list_any};
 ghost use Rattle.res_model.specs.ClockValues.{hsi};
 ghost use Rattle.mcu_tables.specs.Table.{reset_fault};
 
-use res_model::{FlashRange, Scale, TableParts};
+use res_model::{FlashRange, Scale, TableParts, speeds_at};
 
 /// The HSI in hertz (RM0090, RCC), which is the system clock after reset.
 const HSI: u64 = 16000000;
+
+/// Whether a limit is below the HSI, without over-drive or with it.
+fn is_low(plain: u64, over: u64) -> bool
+    ensures { result ≡ (nat_lt plain hsi || nat_lt over hsi) }
+{
+    plain < HSI || over < HSI
+}
 
 fn has_low_scale(scales: &[Scale]) -> bool
     ensures { result ≡ list_any (λ s. nat_lt s.max hsi) scales.now }
@@ -36,13 +43,15 @@ fn has_low_row(ranges: &[FlashRange]) -> bool
 pub fn reset_fault(parts: &TableParts) -> Option<u8>
     ensures { result ≡ reset_fault parts.now }
 {
-    if parts.limits.sysclk < HSI {
+    let plain = speeds_at(parts, 1);
+    let over = speeds_at(parts, 4);
+    if is_low(plain.sysclk, over.sysclk) {
         Some(6)
     } else if has_low_scale(parts.scales.as_slice()) {
         Some(7)
-    } else if parts.limits.pclk1 < HSI {
+    } else if is_low(plain.pclk1, over.pclk1) {
         Some(8)
-    } else if parts.limits.pclk2 < HSI {
+    } else if is_low(plain.pclk2, over.pclk2) {
         Some(9)
     } else if has_low_row(parts.flash.as_slice()) {
         Some(13)

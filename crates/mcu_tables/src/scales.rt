@@ -1,4 +1,5 @@
 ghost use Rattle.std.specs.Prelude.{◌≡◌, ◌≤◌, ◌<◌, ℕ, List, [], ◌∷◌, map, length, slice_index};
+ghost use Rattle.res_model.specs.ClockValues.{widest_hclk};
 ghost use Rattle.mcu_tables.specs.Table.{counted, list, entries_after, scale, scales, number_within, need};
 ghost use Rattle.serde_json.specs.View.{view};
 ghost use Rattle.mcu_tables.specs.Places.{spelled, path_of, entry_path, Reads};
@@ -8,11 +9,18 @@ use crate::json::{member_of, needed};
 use crate::lists::counted_at;
 use crate::place::{Flaw, Key, Place, Spot};
 use res_base::Items;
-use res_model::Scale;
+use res_model::{Scale, has_over};
 use serde_json::Value;
 use std::alloc::Global;
 
-/// The scale that is due after those before it.
+/// The greatest HCLK in hertz that a table may state at a power step.
+fn widest_hclk(step: u16) -> u64
+    ensures { result ≡ widest_hclk step }
+{
+    if has_over(step) { 180000000 } else { 168000000 }
+}
+
+/// The power step that is due after those before it.
 #[tactic(auto, unfolding(crate::specs::Table::scale))]
 fn scale_at(vos: &[u16], before: &[Scale], value: &Value) -> Result<Scale, Flaw>
     requires due { length before.now < length vos.now }
@@ -32,7 +40,7 @@ fn scale_at(vos: &[u16], before: &[Scale], value: &Value) -> Result<Scale, Flaw>
     let at = Spot::Inner(Key::Scales, i, Key::Max);
     let max = number_at(
         1,
-        168000000,
+        widest_hclk(number as u16),
         Place::Member(at),
         needed(member_of(value, Key::Max), at)?,
     )?;
@@ -55,7 +63,7 @@ fn each_scale(alloc: Global, vos: &[u16], values: &[Value]) -> Result<Vec<Scale>
     Ok(found)
 }
 
-/// The scales of the table, one for each of the clock's.
+/// The power steps of the table with their greatest HCLK, one for each of the clock's.
 #[tactic(auto, unfolding(crate::specs::Table::list))]
 pub fn scales_of(alloc: Global, vos: &[u16], value: &Value) -> Result<Items<Scale>, Flaw>
     requires small { (k : ℕ) → k < length vos.now → slice_index vos.now k < 256 }

@@ -1,4 +1,4 @@
-//! Wait states and scales: what the supply voltage and the voltage regulator allow (RM0090, embedded flash and PWR).
+//! Wait states and power steps: what the supply voltage and the voltage regulator allow (RM0090, embedded flash and PWR).
 #![tactic(auto)]
 
 mod flash;

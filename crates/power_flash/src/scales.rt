@@ -1,23 +1,11 @@
-//! Scales of the voltage regulator.
+//! The greatest HCLK at a power step.
 ghost use Rattle.std.specs.Prelude.{◌≡◌, Some, IsSome};
 ghost use Rattle.res_model.specs.Power.{scale_limit, is_within_max};
 
 use res_base::Ratio;
-use res_model::{TableParts, Tables};
+use res_model::{TableParts, Tables, scale_limit};
 
-#[tactic(auto, unfolding(res_model::specs::Power::scale_limit))]
-fn scale_limit(t: &TableParts, vos: u16) -> Option<u64>
-    ensures { result ≡ scale_limit t.now vos }
-{
-    for scale in t.scales.as_slice() {
-        if u16::from(scale.vos) == vos {
-            return Some(scale.max);
-        }
-    }
-    None
-}
-
-/// The greatest HCLK in hertz under a scale.
+/// The greatest HCLK in hertz at a power step.
 pub fn scale_max(t: &Tables, vos: u8) -> u64
     requires { IsSome (scale_limit t.now vos) }
     ensures { scale_limit t.now vos ≡ Some result }
@@ -28,7 +16,7 @@ pub fn scale_max(t: &Tables, vos: u8) -> u64
     }
 }
 
-/// Whether the table has the scale, and HCLK is at most its greatest.
+/// Whether the table has the power step, and HCLK is at most its greatest.
 pub fn is_within_scale(t: &TableParts, hclk: &Ratio, vos: u16) -> bool
     ensures { result ≡ is_within_max hclk.now (scale_limit t.now vos) }
 {

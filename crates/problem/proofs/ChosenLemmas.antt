@@ -109,9 +109,9 @@ module _ (p : ProblemParts) (agree : IsProblem p) (whole : p.first ≢ 0) (at : 
   pub clock_of_domain : (k : ℕ) → k < 10 → Member (clock_value p.clock at k) (values_at (clock_domains p.tables) k)
   clock_of_domain k l = each_at (λ v. Member v (values_at (clock_domains p.tables) k)) (values_at p.clock k) (slice_index at k) (from_at p.clock (clock_domains p.tables) k (agree.domains whole)) (clock_inside k l)
 
-  -- the scale is 1 or 2
-  pub scale_in : IsValid p.tables → IsBetween 1 2 (clock_value p.clock at 9)
-  scale_in valid = each_in (IsBetween 1 2) (clock_value p.clock at 9) (values_at (clock_domains p.tables) 9) (within_at spans (clock_domains p.tables) 9 (domains_in p.tables valid.clock)) (clock_of_domain 9 (omega arith))
+  -- the power step is 1 to 5
+  pub scale_in : IsValid p.tables → IsBetween 1 5 (clock_value p.clock at 9)
+  scale_in valid = each_in (IsBetween 1 5) (clock_value p.clock at 9) (values_at (clock_domains p.tables) 9) (within_at spans (clock_domains p.tables) 9 (domains_in p.tables valid.clock)) (clock_of_domain 9 (omega arith))
 
 -- ---- signals
 

@@ -9,7 +9,7 @@ use Rattle.choice_rank.specs.Choices.{HasPositions, HasSmallSizes}
 use Rattle.res_model.specs.Clock.{IsBetween}
 use Rattle.ioc_project.specs.Project.{domain_tests, all_within, is_among, is_within}
 use Rattle.clock_limits.specs.Ranges.{AreInRange, values_at}
-use Rattle.res_model.specs.ClockValues.{ahb_dividers, apb_dividers, pll_dividers, known_scales}
+use Rattle.res_model.specs.ClockValues.{ahb_dividers, apb_dividers, pll_dividers, known_steps}
 use Rattle.res_model.specs.Valid.{AreDomains, AreAmong, IsRange}
 use Rattle.res_model.specs.declared.project.Home.{Home}
 use Rattle.res_model.specs.declared.table.TableParts.{TableParts}
@@ -95,12 +95,16 @@ apb_within = ((omega arith, omega arith), ((omega arith, omega arith), ((omega a
 pll_within : Each (IsBetween 2 8) pll_dividers
 pll_within = ((omega arith, omega arith), ((omega arith, omega arith), ((omega arith, omega arith), ((omega arith, omega arith), tt))))
 
-scales_within : Each (IsBetween 1 2) known_scales
-scales_within = ((omega arith, omega arith), ((omega arith, omega arith), tt))
+steps_if : (b : Bool) → Each (IsBetween 1 5) (cond b (1 ∷ 2 ∷ []) (1 ∷ 2 ∷ 3 ∷ 4 ∷ 5 ∷ []))
+steps_if true = ((omega arith, omega arith), ((omega arith, omega arith), tt))
+steps_if false = ((omega arith, omega arith), ((omega arith, omega arith), ((omega arith, omega arith), ((omega arith, omega arith), ((omega arith, omega arith), tt)))))
+
+steps_within : (version : ℕ) → Each (IsBetween 1 5) (known_steps version)
+steps_within version = steps_if (version == 1)
 
 -- the widest bounds of each clock variable
 abbrev pub spans : List (ℕ × ℕ)
-spans = (0, 2) ∷ (0, 1) ∷ (1, 512) ∷ (2, 8) ∷ (2, 63) ∷ (50, 432) ∷ (2, 15) ∷ (1, 16) ∷ (1, 16) ∷ (1, 2) ∷ []
+spans = (0, 2) ∷ (0, 1) ∷ (1, 512) ∷ (2, 8) ∷ (2, 63) ∷ (50, 432) ∷ (2, 15) ∷ (1, 16) ∷ (1, 16) ∷ (1, 5) ∷ []
 
 -- each list is a domain within its bounds
 abbrev pub AreDomainsIn : List (ℕ × ℕ) → List (List ℕ) → Type 0
@@ -109,22 +113,22 @@ AreDomainsIn [] (d ∷ ds) = ⊥
 AreDomainsIn (s ∷ ss) [] = ⊥
 AreDomainsIn (s ∷ ss) (d ∷ ds) = IsDomain s d × AreDomainsIn ss ds
 
-hpre_in : (t : TableParts) → AreDomains t.clock → IsDomain (1, 512) t.clock.hpre
+hpre_in : (t : TableParts) → AreDomains t.version t.clock → IsDomain (1, 512) t.clock.hpre
 hpre_in t c = among_domain 1 512 ahb_dividers t.clock.hpre (omega arith) (omega arith) ahb_within c.hpre (member_some 1 t.clock.hpre c.hpre_one)
 
-p_in : (t : TableParts) → AreDomains t.clock → IsDomain (2, 8) t.clock.p
+p_in : (t : TableParts) → AreDomains t.version t.clock → IsDomain (2, 8) t.clock.p
 p_in t c = among_domain 2 8 pll_dividers t.clock.p (omega arith) (omega arith) pll_within c.p c.p_some
 
-ppre1_in : (t : TableParts) → AreDomains t.clock → IsDomain (1, 16) t.clock.ppre1
+ppre1_in : (t : TableParts) → AreDomains t.version t.clock → IsDomain (1, 16) t.clock.ppre1
 ppre1_in t c = among_domain 1 16 apb_dividers t.clock.ppre1 (omega arith) (omega arith) apb_within c.ppre1 (member_some 1 t.clock.ppre1 c.ppre1_one)
 
-ppre2_in : (t : TableParts) → AreDomains t.clock → IsDomain (1, 16) t.clock.ppre2
+ppre2_in : (t : TableParts) → AreDomains t.version t.clock → IsDomain (1, 16) t.clock.ppre2
 ppre2_in t c = among_domain 1 16 apb_dividers t.clock.ppre2 (omega arith) (omega arith) apb_within c.ppre2 (member_some 1 t.clock.ppre2 c.ppre2_one)
 
-vos_in : (t : TableParts) → AreDomains t.clock → IsDomain (1, 2) t.clock.vos
-vos_in t c = among_domain 1 2 known_scales t.clock.vos (omega arith) (omega arith) scales_within c.vos (member_some 1 t.clock.vos c.vos_one)
+vos_in : (t : TableParts) → AreDomains t.version t.clock → IsDomain (1, 5) t.clock.vos
+vos_in t c = among_domain 1 5 (known_steps t.version) t.clock.vos (omega arith) (omega arith) (steps_within t.version) c.vos (member_some 1 t.clock.vos c.vos_one)
 
-pub domains_in : (t : TableParts) → AreDomains t.clock → AreDomainsIn spans (clock_domains t)
+pub domains_in : (t : TableParts) → AreDomains t.version t.clock → AreDomainsIn spans (clock_domains t)
 unfolding clock_domains
 domains_in t c = (
   record { some = omega arith; few = omega arith; within = ((omega arith, omega arith), ((omega arith, omega arith), ((omega arith, omega arith), tt))) },
@@ -194,7 +198,7 @@ range_within low high range r v e = case (nat_le range.0 v) (nat_le v range.1) r
 below_within : (high : ℕ) (v : ℕ) → nat_lt v (high + 1) ≡ true → IsBetween 0 high v
 below_within high v e = let l : v < high + 1 = grind (arith, nat_tests, e) in (omega arith, omega (arith, l))
 
-pub tests_in : (t : TableParts) → AreDomains t.clock → AreTestsIn spans (domain_tests t.clock)
+pub tests_in : (t : TableParts) → AreDomains t.version t.clock → AreTestsIn spans (domain_tests t.clock)
 tests_in t c = (
   λ v e. below_within 2 v e,
   (
@@ -214,7 +218,7 @@ tests_in t c = (
                 (
                   among_within 1 16 t.clock.ppre2 (ppre2_in t c).within,
                   (
-                    among_within 1 2 t.clock.vos (vos_in t c).within,
+                    among_within 1 5 t.clock.vos (vos_in t c).within,
                     tt,
                   ),
                 ),

@@ -12,8 +12,17 @@ fn table() -> &'static str {
     r#"{"version":1,"names":["STM32F407V(E-G)Tx"],"package":"LQFP100","pins":["PH0-OSC_IN"],"signals":[{"name":"RCC_OSC_IN","use":"osc","at":["PH0-OSC_IN"]}],"hse_in":"RCC_OSC_IN","hse_out":"RCC_OSC_OUT","ips":[],"clock":{"m":[2,63],"n":[50,432],"p":[2,4],"q":[2,15],"hpre":[1,2],"ppre1":[1,2,4],"ppre2":[1,2],"vos":[1,2]},"limits":{"crystal":[4000000,26000000],"bypass":[1000000,50000000],"vco_in":[1000000,2000000],"vco":[100000000,432000000],"sysclk":168000000,"pclk1":42000000,"pclk2":84000000},"scales":[{"vos":1,"max":168000000},{"vos":2,"max":144000000}],"flash":[{"from":1800,"to":2099,"prefetch":true,"rows":[20000000,40000000,160000000]},{"from":2700,"to":3600,"prefetch":true,"rows":[30000000,60000000,90000000,120000000,150000000,168000000]}],"defaults":{"src":"HSI","psrc":"HSI","hpre":1,"p":2,"m":16,"n":192,"q":4,"ppre1":1,"ppre2":1,"vos":1,"hse":8000000}}"#
 }
 
+/// The limits of an STM32F429 at 2.7 V and above.
+fn table_with_over() -> &'static str {
+    r#"{"version":2,"names":["STM32F429V(E-G)Tx"],"package":"LQFP100","pins":["PH0-OSC_IN"],"signals":[{"name":"RCC_OSC_IN","use":"osc","at":["PH0-OSC_IN"]}],"hse_in":"RCC_OSC_IN","hse_out":"RCC_OSC_OUT","ips":[],"clock":{"m":[2,63],"n":[50,432],"p":[2,4],"q":[2,15],"hpre":[1,2],"ppre1":[1,2,4],"ppre2":[1,2],"vos":[1,2,3,4,5]},"limits":{"crystal":[4000000,26000000],"bypass":[1000000,50000000],"vco_in":[1000000,2000000],"vco":[100000000,432000000],"sysclk":168000000,"pclk1":42000000,"pclk2":84000000,"over":{"sysclk":180000000,"pclk1":45000000,"pclk2":90000000}},"scales":[{"vos":1,"max":168000000},{"vos":2,"max":144000000},{"vos":3,"max":120000000},{"vos":4,"max":180000000},{"vos":5,"max":168000000}],"flash":[{"from":2700,"to":3600,"prefetch":true,"rows":[30000000,60000000,90000000,120000000,150000000,180000000]}],"defaults":{"src":"HSI","psrc":"HSI","hpre":1,"p":2,"m":16,"n":192,"q":4,"ppre1":1,"ppre2":1,"vos":1,"hse":8000000}}"#
+}
+
 fn tables(alloc: Global) -> Result<Tables, TableFault> {
     read_tables(alloc, table().as_bytes())
+}
+
+fn tables_with_over(alloc: Global) -> Result<Tables, TableFault> {
+    read_tables(alloc, table_with_over().as_bytes())
 }
 
 const QUIET: Facts = Facts {
@@ -71,6 +80,68 @@ fn limit(alloc: Global, f: &Facts, c: &ClockChoice) -> Result<Option<u8>, Fail>
 {
     let t = tables(alloc)?;
     Ok(broken(&t, f, c))
+}
+
+/// 180 MHz from HSI, at scale 1 with over-drive.
+const OVER: ClockChoice = ClockChoice {
+    src: Src::Pll,
+    n: 360,
+    ppre1: 4,
+    ppre2: 2,
+    vos: 4,
+    ..RESET
+};
+
+/// The least limit that a choice breaks under the table of a part with over-drive.
+fn limit_with_over(alloc: Global, c: &ClockChoice) -> Result<Option<u8>, Fail>
+    requires { IsInRange c.now }
+{
+    let t = tables_with_over(alloc)?;
+    Ok(broken(&t, &QUIET, c))
+}
+
+#[test]
+fn limits_are_those_of_the_power_step(rt: HostRuntime) -> Result<(), Fail> {
+    assert_eq!(rt; limit_with_over(rt.alloc(), &OVER)?, None);
+    let plain = ClockChoice { vos: 1, ..OVER };
+    assert_eq!(rt; limit_with_over(rt.alloc(), &plain)?, Some(6), "180 MHz");
+    let scale_2 = ClockChoice { vos: 5, ..OVER };
+    assert_eq!(rt;
+        limit_with_over(rt.alloc(), &scale_2)?,
+        Some(7),
+        "the step's own"
+    );
+    let slower = ClockChoice { n: 336, ..scale_2 };
+    assert_eq!(rt; limit_with_over(rt.alloc(), &slower)?, None, "168 MHz");
+    let bus = ClockChoice { ppre1: 2, ..OVER };
+    assert_eq!(rt; limit_with_over(rt.alloc(), &bus)?, Some(8), "90 MHz");
+    let bus = ClockChoice { ppre2: 1, ..OVER };
+    assert_eq!(rt; limit_with_over(rt.alloc(), &bus)?, Some(9), "180 MHz");
+    Ok(())
+}
+
+#[test]
+fn scale_3_has_a_limit_of_its_own(rt: HostRuntime) -> Result<(), Fail> {
+    let most = ClockChoice {
+        n: 240,
+        vos: 3,
+        ..OVER
+    };
+    assert_eq!(rt; limit_with_over(rt.alloc(), &most)?, None, "120 MHz");
+    let more = ClockChoice { n: 242, ..most };
+    assert_eq!(rt; limit_with_over(rt.alloc(), &more)?, Some(7), "121 MHz");
+    Ok(())
+}
+
+#[test]
+fn over_drive_is_beside_the_pll_alone(rt: HostRuntime) -> Result<(), Fail> {
+    let idle = ClockChoice { vos: 4, ..RESET };
+    assert_eq!(rt; limit_with_over(rt.alloc(), &idle)?, Some(17));
+    let scale_2 = ClockChoice { vos: 5, ..RESET };
+    assert_eq!(rt; limit_with_over(rt.alloc(), &scale_2)?, Some(17));
+    let third = ClockChoice { vos: 3, ..RESET };
+    assert_eq!(rt; limit_with_over(rt.alloc(), &third)?, None);
+    Ok(())
 }
 
 #[test]

@@ -111,7 +111,7 @@ form_read (HallForm class []) h = absurd h.0
 form_read (HallForm class.Pins (v ∷ vs)) h = ap (option_map (HallForm class.Pins)) (variables_read 0 v vs h.1)
 form_read (HallForm class.Exti (v ∷ vs)) h = ap (option_map (HallForm class.Exti)) (variables_read 0 v vs h.1)
 form_read (LimitForm n) h =
-    ap limit_form (append_nil (decimal n)) ∙ ap (option_map LimitForm) (from_read 3 17 n (omega (arith, h.1)) h.0 (omega (arith, h.1)))
+    ap limit_form (append_nil (decimal n)) ∙ ap (option_map LimitForm) (from_read 3 18 n (omega (arith, h.1)) h.0 (omega (arith, h.1)))
 form_read RankForm h = refl
 form_read WitnessForm h = refl
 

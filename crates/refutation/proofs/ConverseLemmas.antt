@@ -161,9 +161,9 @@ hall_back c g gs f e =
 limit_back : (field : List ℕ) (f : Form) → limit_form field ≡ Some f → Is (76 ∷ 32 ∷ field) f
 unfolding limit_form
 limit_back field f e =
-    let a = some_map LimitForm (number_from 3 17 field) f e in
-    let n = from_back 3 17 field a.0 a.1 in
-    let most : a.0 ≤ 16 = omega (arith, n.1) in
+    let a = some_map LimitForm (number_from 3 18 field) f e in
+    let n = from_back 3 18 field a.0 a.1 in
+    let most : a.0 ≤ 17 = omega (arith, n.1) in
     let text : 76 ∷ 32 ∷ field ≡ form_text (LimitForm a.0) = ap (λ xs. 76 ∷ 32 ∷ xs) (n.2 ∙ sym (append_nil (decimal a.0))) in
     subst (λ f. Is (76 ∷ 32 ∷ field) f) a.2 ((n.0, most), text)
 

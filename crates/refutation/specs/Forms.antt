@@ -66,7 +66,7 @@ HasOne (v ∷ vs) = Unit {0}
 abbrev pub FitsForm : Form → Type 0
 FitsForm (SplitForm variable after) = (variable < 170) × (after < 512)
 FitsForm (HallForm class variables) = HasOne variables × IsAscending 0 variables
-FitsForm (LimitForm limit) = (3 ≤ limit) × (limit ≤ 16)
+FitsForm (LimitForm limit) = (3 ≤ limit) × (limit ≤ 17)
 FitsForm RankForm = Unit {0}
 FitsForm WitnessForm = Unit {0}
 

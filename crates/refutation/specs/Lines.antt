@@ -13,10 +13,10 @@ pub record HasMembers (vars : VarSet) : Type 0 where
   pub some : (v : ℕ) × (v < 192) × (in_set vars v ≡ true)
   pub variables : (v : ℕ) → v < 192 → in_set vars v ≡ true → v < 170
 
--- a limit that can be written is one of L3 to L16
+-- a limit that can be written is one of L3 to L17
 abbrev pub HasLine : Reason → Type 0
 HasLine (reason.Hall class vars) = HasMembers vars
-HasLine (reason.Limit limit) = (3 ≤ limit) × (limit ≤ 16)
+HasLine (reason.Limit limit) = (3 ≤ limit) × (limit ≤ 17)
 
 -- each reason of the judge has a line
 abbrev pub ReasonsHaveLines : Meaning → Type 0

@@ -73,7 +73,7 @@ unfoldable pub hall_form : Class → List (List ℕ) → Option Form
 hall_form class fs = option_map (HallForm class) (variables_from 0 fs)
 
 unfoldable pub limit_form : List ℕ → Option Form
-limit_form field = option_map LimitForm (number_from 3 17 field)
+limit_form field = option_map LimitForm (number_from 3 18 field)
 
 unfoldable pub form_of_text : List ℕ → Option Form
 form_of_text text =

@@ -219,7 +219,7 @@ fn split_after(variable: &[u8], after: &[u8]) -> Option<Node>
 fn limit_of(field: &[u8]) -> Option<Node>
     ensures { option_map form_of result ≡ limit_form field.now }
 {
-    let limit = number_from(3, 17, field)? as u8;
+    let limit = number_from(3, 18, field)? as u8;
     Some(Node::Bad(Reason::Limit(limit)))
 }
 

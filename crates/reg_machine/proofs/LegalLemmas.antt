@@ -1,6 +1,6 @@
 -- The tests of legality say their sentences.
 use Rattle.std.proofs.Common.{◌≡◌, ℕ, zero, suc, ◌<◌, ◌≤◌, ◌%◌, Bool, true, false, ◌&&◌, ◌||◌, not, eqb, leb, ltb, List, length, get_or, Option, Some, None, ◌⊎◌, inl, inr, refl, sym, subst, ap, ◌∙◌, arith, ◌+◌, add-one}
-use Rattle.std.specs.Prelude.{◌↔◌, IsTrue}
+use Rattle.std.specs.Prelude.{◌↔◌, IsTrue, is_some}
 use Rattle.std.proofs.lemmas.Bool.{eq-eqb, eqb-true, cases_lt}
 use Rattle.std.proofs.lemmas.Bool.Decides.{leb_tells, eqb_tells, nat_tests}
 use Rattle.reg_map.specs.Fields.{bit_of}
@@ -10,8 +10,10 @@ use Rattle.res_model.specs.Limits.{AreWithin, are_within, IsWithinMax}
 use Rattle.res_model.specs.Power.{is_within_max}
 use Rattle.res_model.specs.declared.table.Mode.{Mode}
 use Rattle.res_model.specs.declared.table.Mode.TheVariants as mode
+use Rattle.res_model.specs.declared.table.Over.{Over}
 use Rattle.res_model.specs.declared.table.TableParts.{TableParts}
 use Rattle.reg_machine.specs.Pins.{mode_field, af_field, is_debug, is_function, is_chosen, is_pin_legal, is_place_legal, are_legal_below, IsFunction, IsChosen, IsPinLegal}
+use Rattle.reg_machine.specs.Power.{power_of}
 use Rattle.reg_machine.specs.Tree.{choice_of}
 use Rattle.reg_machine.specs.Legal.{NodesFit, nodes_fit, is_choice_legal, are_within_some, is_vco_legal, IsLegal, is_legal}
 use Rattle.reg_machine.specs.declared.state.State.{State}
@@ -132,9 +134,9 @@ max_test : (max : Option ℕ) (x : Fraction) → IsWithinMax x max → is_within
 max_test None x h = absurd h
 max_test (Some max) x h = test_of x (whole max) h
 
-module _ (t : TableParts) (scale : Option ℕ) (rows : List ℕ) (wait : ℕ) (x : Fraction) (h a b : ℕ) where
+module _ (speeds : Over) (scale : Option ℕ) (rows : List ℕ) (wait : ℕ) (x : Fraction) (h a b : ℕ) where
   t1 : Bool
-  t1 = at_most x (whole t.limits.sysclk)
+  t1 = at_most x (whole speeds.sysclk)
 
   t2 : Bool
   t2 = is_within_max (over x h) scale
@@ -146,12 +148,12 @@ module _ (t : TableParts) (scale : Option ℕ) (rows : List ℕ) (wait : ℕ) (x
   t4 = at_most (over x h) (whole (get_or rows wait 0))
 
   t5 : Bool
-  t5 = at_most (over (over x h) a) (whole t.limits.pclk1)
+  t5 = at_most (over (over x h) a) (whole speeds.pclk1)
 
   t6 : Bool
-  t6 = at_most (over (over x h) b) (whole t.limits.pclk2)
+  t6 = at_most (over (over x h) b) (whole speeds.pclk2)
 
-  pub nodes_fact : nodes_fit t scale rows wait x h a b ≡ true → NodesFit t scale rows wait x h a b
+  pub nodes_fact : nodes_fit speeds scale rows wait x h a b ≡ true → NodesFit speeds scale rows wait x h a b
   unfolding t1 t2 t3 t4 t5 t6
   nodes_fact e =
       let e2 = and_right t1 (t2 && ((t3 && t4) && (t5 && t6))) e in
@@ -167,7 +169,7 @@ module _ (t : TableParts) (scale : Option ℕ) (rows : List ℕ) (wait : ℕ) (x
         pclk2_within = fact_of _ _ (and_right t5 t6 e5);
       }
 
-  pub nodes_test : NodesFit t scale rows wait x h a b → nodes_fit t scale rows wait x h a b ≡ true
+  pub nodes_test : NodesFit speeds scale rows wait x h a b → nodes_fit speeds scale rows wait x h a b ≡ true
   unfolding t1 t2 t3 t4 t5 t6
   nodes_test n =
       both t1 (t2 && ((t3 && t4) && (t5 && t6))) (test_of _ _ n.sysclk_within)
@@ -192,6 +194,9 @@ some_test bounds false x h = refl
 -- ---- the whole
 
 module _ (t : TableParts) (want : Target) (s : State) where
+  l0 : Bool
+  l0 = is_some (power_of s)
+
   l1 : Bool
   l1 = is_choice_legal t want.facts s.latency (choice_of s s.source)
 
@@ -211,26 +216,29 @@ module _ (t : TableParts) (want : Target) (s : State) where
   v2 = are_within_some t.limits.vco (where_used (bit_of 24 s.cr) (vco_of want.facts (choice_of s s.source)))
 
   legal_fact : is_legal t want s ≡ true → IsLegal t want s
-  unfolding l1 l2 l3 l4 v1 v2
+  unfolding l0 l1 l2 l3 l4 v1 v2
   legal_fact e =
-      let e2 = and_right l1 (l2 && (l3 && l4)) e in
+      let e1 = and_right l0 (l1 && (l2 && (l3 && l4))) e in
+      let e2 = and_right l1 (l2 && (l3 && l4)) e1 in
       let e3 = and_right l2 (l3 && l4) e2 in
       let vco = and_left l3 l4 e3 in
       record {
-        in_effect = nodes_fact t _ _ _ _ _ _ _ (and_left l1 (l2 && (l3 && l4)) e);
-        asked = nodes_fact t _ _ _ _ _ _ _ (and_left l2 (l3 && l4) e2);
+        power = and_left l0 (l1 && (l2 && (l3 && l4))) e;
+        in_effect = nodes_fact _ _ _ _ _ _ _ _ (and_left l1 (l2 && (l3 && l4)) e1);
+        asked = nodes_fact _ _ _ _ _ _ _ _ (and_left l2 (l3 && l4) e2);
         vco_in = some_fact t.limits.vco_in (bit_of 24 s.cr) _ (and_left v1 v2 vco);
         vco = some_fact t.limits.vco (bit_of 24 s.cr) _ (and_right v1 v2 vco);
         pins = record { pin = (below_fact 144 want.pins s.gpio (and_right l3 l4 e3)).pin };
       }
 
   legal_test : IsLegal t want s → is_legal t want s ≡ true
-  unfolding l1 l2 l3 l4 v1 v2
+  unfolding l0 l1 l2 l3 l4 v1 v2
   legal_test h =
-      both l1 (l2 && (l3 && l4)) (nodes_test t _ _ _ _ _ _ _ h.in_effect)
-      (both l2 (l3 && l4) (nodes_test t _ _ _ _ _ _ _ h.asked)
+      both l0 (l1 && (l2 && (l3 && l4))) h.power
+      (both l1 (l2 && (l3 && l4)) (nodes_test _ _ _ _ _ _ _ _ h.in_effect)
+      (both l2 (l3 && l4) (nodes_test _ _ _ _ _ _ _ _ h.asked)
       (both l3 l4 (both v1 v2 (some_test t.limits.vco_in (bit_of 24 s.cr) _ h.vco_in) (some_test t.limits.vco (bit_of 24 s.cr) _ h.vco))
-      (below_test 144 want.pins s.gpio (record { pin = h.pins.pin }))))
+      (below_test 144 want.pins s.gpio (record { pin = h.pins.pin })))))
 
   pub legal_says : IsTrue (is_legal t want s) ↔ IsLegal t want s
   legal_says = (λ e. legal_fact e, λ h. legal_test h)

@@ -51,7 +51,7 @@ module _ (legal right : State → Type 0) where
     pub with_flags : (s : State) → I s → (a : Answer) → legal (flags a s)
     pub move : (s : State) → I s → (a : Answer) → Move I op ops most s a
     -- where every flag comes, it goes on
-    pub goes : (s : State) → I s → (a : Answer) → a.hse ≡ true → a.pll ≡ true → a.latency ≡ true → a.switch ≡ true → (t : State) × (next a (Running (op ∷ ops) s) ≡ Running ops t) × Sound legal right ops t
+    pub goes : (s : State) → I s → (a : Answer) → a.hse ≡ true → a.pll ≡ true → a.latency ≡ true → a.switch ≡ true → a.over ≡ true → a.over_switch ≡ true → (t : State) × (next a (Running (op ∷ ops) s) ≡ Running ops t) × Sound legal right ops t
 
   module _ (I : State → Type 0) (op : Op) (ops : List Op) (most : ℕ) (k : Keeps I op ops most) where
     fine_moved : (n : ℕ) (answers : List Answer) (s : State) (a : Answer) → ((t : State) → I t → IsFine legal right (config_at n answers (Running (op ∷ ops) t))) → Move I op ops most s a → IsFine legal right (config_at n answers (next a (Running (op ∷ ops) s)))
@@ -85,8 +85,8 @@ module _ (legal right : State → Type 0) where
     prompt_from : (answers : List Answer) (s : State) → I s → AllCome answers → length (op ∷ ops) ≤ length answers → IsDone (config_at (suc (length (op ∷ ops))) answers (Running (op ∷ ops) s))
     prompt_from [] s i all len = absurd (omega arith)
     prompt_from (a ∷ answers) s i all len =
-        let g = k.goes s i a all.0 all.1 all.2 all.3 in
-        subst (λ c. IsDone (config_at (suc (length ops)) answers c)) (sym g.1) (g.2.prompt answers all.4 (omega arith))
+        let g = k.goes s i a all.0 all.1 all.2 all.3 all.4 all.5 in
+        subst (λ c. IsDone (config_at (suc (length ops)) answers c)) (sym g.1) (g.2.prompt answers all.6 (omega arith))
 
     pub sound_from : (s : State) → I s → Sound legal right (op ∷ ops) s
     sound_from s i = record {
@@ -102,13 +102,13 @@ module _ (legal right : State → Type 0) where
         now = λ u i. subst legal (sym i) l;
         with_flags = λ u i a. subst (λ v. legal (flags a v)) (sym i) (f a);
         move = λ u i a. on (t a) (ap (λ v. next a (Running (op ∷ ops) v)) i ∙ e a) (d a);
-        goes = λ u i a p q r x. (t a, ap (λ v. next a (Running (op ∷ ops) v)) i ∙ e a, d a);
+        goes = λ u i a p q r x y z. (t a, ap (λ v. next a (Running (op ∷ ops) v)) i ∙ e a, d a);
       }) s refl
 
   -- an await of one flag: st b p is the state with the flag b and p polls done
   pub record Awaits (st : Bool → ℕ → State) (come : Answer → Bool) (op : Op) (ops : List Op) (most : ℕ) (name : Timeout) : Type 0 where
     pub flags_are : (a : Answer) (b : Bool) (p : ℕ) → flags a (st b p) ≡ st (come a || b) p
-    pub comes : (a : Answer) → a.hse ≡ true → a.pll ≡ true → a.latency ≡ true → a.switch ≡ true → come a ≡ true
+    pub comes : (a : Answer) → a.hse ≡ true → a.pll ≡ true → a.latency ≡ true → a.switch ≡ true → a.over ≡ true → a.over_switch ≡ true → come a ≡ true
     pub polls_are : (b : Bool) (p : ℕ) → (st b p).polls ≡ p
     pub goes_on : (p : ℕ) → act (st true p) op ≡ (stepped.Went, st true 0)
     pub waits : (p : ℕ) → p + 1 < most → act (st false p) op ≡ (stepped.Waiting, st false (p + 1))
@@ -137,8 +137,8 @@ module _ (legal right : State → Type 0) where
       now = λ s i. subst legal (sym i.3) (w.is_legal i.0 i.1);
       with_flags = λ s i a. subst legal (sym (ap (flags a) i.3 ∙ w.flags_are a i.0 i.1)) (w.is_legal (come a || i.0) i.1);
       move = λ s i a. moved a s (come a || i.0) i.1 (ap (λ (u : State). u.polls) i.3 ∙ w.polls_are i.0 i.1) i.2 (stepped_to a s i.0 i.1 i.3);
-      goes = λ s i a h q l x.
-          let c = w.comes a h q l x in
+      goes = λ s i a h q l x y z.
+          let c = w.comes a h q l x y z in
           (st true 0, stepped_to a s i.0 i.1 i.3 ∙ ap (λ b. after op ops (act (st (b || i.0) i.1) op)) c ∙ ap (after op ops) (w.goes_on i.1), w.rest);
     }
 

@@ -1,6 +1,7 @@
 pub mod Awaits
 pub mod Legal
 pub mod Pins
+pub mod Power
 pub mod Reset
 pub mod Rules
 pub mod Run

@@ -2,6 +2,7 @@
 use Rattle.std.specs.Prelude.{ℕ, List, [], ◌∷◌, false}
 use Rattle.res_model.specs.Power.{range_at, range_prefetches}
 use Rattle.res_model.specs.declared.table.TableParts.{TableParts}
+use Rattle.reg_machine.specs.Power.{vos_mask}
 use Rattle.reg_machine.specs.declared.state.State.{State}
 use Rattle.reg_machine.specs.declared.state.Target.{Target}
 
@@ -19,7 +20,7 @@ reset_gpio =
     ∷ 0 ∷ 0 ∷ 0 ∷ 0 ∷ 0 ∷ 0
     ∷ []
 
--- HSI is on and in effect, and nothing was written or read. Of RCC_CR's 0x83 bit 1 reads HSIRDY.
+-- HSI is on and in effect, VOS names scale 1, and nothing was written or read. Of RCC_CR's 0x83 bit 1 reads HSIRDY.
 abbrev pub reset_of : TableParts → Target → State
 reset_of t want =
     record {
@@ -31,17 +32,20 @@ reset_of t want =
       ahb_read = 0;
       apb1enr = 0;
       apb_read = 0;
-      pwr_cr = 0x00004000;
+      pwr_cr = vos_mask t.version;
       gpio = reset_gpio;
       hse_ready = false;
       pll_ready = false;
       latency = 0;
       source = 0;
+      over_ready = false;
+      over_switched = false;
       acr_written = false;
       polls = 0;
       osc_in = want.facts.osc_in;
       bypass = want.facts.bypass;
       prefetch = range_prefetches (range_at t want.facts.vdd);
+      version = t.version;
     }
 
 -- what a machine is: the table, what is wanted, and the state

@@ -1,12 +1,13 @@
 -- The rules that forbid a value in a register, each by what it forbids. The state is that before the write.
 -- They are this project's own, after RM0090.
-use Rattle.std.specs.Prelude.{ℕ, ◌/◌, ◌%◌, ◌^◌, ◌-◌, Bool, ◌&&◌, ◌||◌, not, if◌then◌else◌, ◌==◌, bit_and, bit_or, Option, Some, None}
+use Rattle.std.specs.Prelude.{ℕ, ◌/◌, ◌%◌, ◌^◌, ◌-◌, Bool, ◌&&◌, ◌||◌, not, if◌then◌else◌, ◌==◌, nat_lt, bit_and, bit_or, Option, Some, None}
 use Rattle.reg_map.specs.Fields.{bit_of}
 use Rattle.reg_map.specs.declared.register.Reg.{Reg}
 use Rattle.reg_map.specs.declared.register.Reg.TheVariants as reg
 use Rattle.reg_machine.specs.declared.op.Rule.{Rule}
 use Rattle.reg_machine.specs.declared.op.Rule.TheVariants as rule
 use Rattle.reg_machine.specs.declared.state.State.{State}
+use Rattle.reg_machine.specs.Power.{vos_mask, pwr_others, scale_of}
 use Rattle.reg_machine.specs.Words.{is_ready, pll_source, in_use, is_whole}
 
 -- the number by which a rule is printed; of several that forbid a step, the one with the least is told
@@ -29,6 +30,9 @@ number_of rule.AcrModifiedOrOtherBit = 15
 number_of rule.PrefetchAtLowSupply = 16
 number_of rule.GpioBeforeEnable = 17
 number_of rule.AwaitUnlawful = 18
+number_of rule.OverOnUnfit = 19
+number_of rule.OverSwitchUnfit = 20
+number_of rule.PwrCsrWritten = 21
 
 abbrev pub differ : Bool → Bool → Bool
 differ a b = if a then not b else b
@@ -66,10 +70,14 @@ hse_off_in_use s value = clears 16 s.cr value && in_use s 1
 abbrev pub pll_on_unfit : State → ℕ → Bool
 pll_on_unfit s value = sets 24 s.cr value && (not (is_ready s (pll_source s.pllcfgr)) || not (is_whole s.pllcfgr))
 
--- PLLON cleared while the PLL is in effect or asked for, or a bit but HSION, HSIRDY, HSEON, HSERDY, HSEBYP, PLLON and
--- PLLRDY changed
+-- the PLL is in effect or asked for
+abbrev pub pll_in_effect : State → Bool
+pll_in_effect s = (s.source == 2) || (s.cfgr % 4 == 2)
+
+-- PLLON cleared while the PLL is in effect or asked for, or ODEN is set, or a bit but HSION, HSIRDY, HSEON, HSERDY, HSEBYP,
+-- PLLON and PLLRDY changed
 abbrev pub pll_off_in_use_or_other_bit : State → ℕ → Bool
-pll_off_in_use_or_other_bit s value = (clears 24 s.cr value && ((s.source == 2) || (s.cfgr % 4 == 2))) || changes 0xFCF8FFFC s.cr value
+pll_off_in_use_or_other_bit s value = (clears 24 s.cr value && (pll_in_effect s || bit_of 16 s.pwr_cr)) || changes 0xFCF8FFFC s.cr value
 
 -- ---- RCC_PLLCFGR
 
@@ -107,9 +115,18 @@ power_disabled_or_other_bit s value = clears 28 s.apb1enr value || changes 0xEFF
 abbrev pub pwr_cr_before_enable : State → Bool
 pwr_cr_before_enable s = not (bit_of 28 s.apb1enr && bit_of 28 s.apb_read)
 
--- VOS changed while PLLON is set, or another bit changed
+-- VOS changed while PLLON is set, or naming no scale after the write, or a bit changed that is none of its fields
 abbrev pub scale_with_pll_on_or_other_bit : State → ℕ → Bool
-scale_with_pll_on_or_other_bit s value = (bit_of 24 s.cr && differ (bit_of 14 s.pwr_cr) (bit_of 14 value)) || changes 0xFFFFBFFF s.pwr_cr value
+scale_with_pll_on_or_other_bit s value =
+    (bit_of 24 s.cr && changes (vos_mask s.version) s.pwr_cr value) || (nat_lt 3 (scale_of s.version value) || changes (pwr_others s.version) s.pwr_cr value)
+
+-- ODEN set while PLLON is 0, or the PLL is in effect or asked for, or VOS names scale 3; or ODEN cleared
+abbrev pub over_on_unfit : State → ℕ → Bool
+over_on_unfit s value = (sets 16 s.pwr_cr value && (not (bit_of 24 s.cr) || (pll_in_effect s || (scale_of s.version s.pwr_cr == 3)))) || clears 16 s.pwr_cr value
+
+-- ODSWEN set while over-drive is not ready, or the PLL is in effect or asked for; or ODSWEN cleared
+abbrev pub over_switch_unfit : State → ℕ → Bool
+over_switch_unfit s value = (sets 17 s.pwr_cr value && (not s.over_ready || pll_in_effect s)) || clears 17 s.pwr_cr value
 
 -- ---- FLASH_ACR
 
@@ -139,6 +156,14 @@ bars_cr s value =
     else (if pll_off_in_use_or_other_bit s value then Some rule.PllOffInUseOrOtherBit
     else None)))))
 
+abbrev pub bars_pwr_cr : State → ℕ → Option Rule
+bars_pwr_cr s value =
+    if pwr_cr_before_enable s then Some rule.PwrCrBeforeEnable
+    else (if scale_with_pll_on_or_other_bit s value then Some rule.ScaleWithPllOnOrOtherBit
+    else (if over_on_unfit s value then Some rule.OverOnUnfit
+    else (if over_switch_unfit s value then Some rule.OverSwitchUnfit
+    else None)))
+
 -- the lower of two rules
 abbrev pub either : Rule → Bool → Rule → Bool → Option Rule
 either low by_low high by_high = if by_low then Some low else (if by_high then Some high else None)
@@ -150,5 +175,6 @@ bars s reg.Cfgr value = either rule.SwitchToUnready (switch_to_unready s value) 
 bars s reg.Ahb1enr value = if port_disabled_or_other_bit s value then Some rule.PortDisabledOrOtherBit else None
 bars s reg.Apb1enr value = if power_disabled_or_other_bit s value then Some rule.PowerDisabledOrOtherBit else None
 bars s reg.Acr value = either rule.AcrModifiedOrOtherBit (acr_other_bit s value) rule.PrefetchAtLowSupply (prefetch_at_low_supply s value)
-bars s reg.PwrCr value = either rule.PwrCrBeforeEnable (pwr_cr_before_enable s) rule.ScaleWithPllOnOrOtherBit (scale_with_pll_on_or_other_bit s value)
+bars s reg.PwrCr value = bars_pwr_cr s value
+bars s reg.PwrCsr value = Some rule.PwrCsrWritten
 bars s (reg.Gpio port k) value = if gpio_before_enable s port then Some rule.GpioBeforeEnable else None

@@ -31,7 +31,7 @@ next a (Forbidden rule s) = Forbidden rule s
 
 -- no flag comes
 abbrev pub silent : Answer
-silent = record { hse = false; pll = false; latency = false; switch = false }
+silent = record { hse = false; pll = false; latency = false; switch = false; over = false; over_switch = false }
 
 -- the run after n steps. Past the end of the list no flag comes
 abbrev pub config_at : ℕ → List Answer → Config → Config
@@ -55,7 +55,7 @@ IsFine legal right (Forbidden rule s) = ⊥
 
 abbrev pub AllCome : List Answer → Type 0
 AllCome [] = Unit {0}
-AllCome (a ∷ answers) = (a.hse ≡ true) × (a.pll ≡ true) × (a.latency ≡ true) × (a.switch ≡ true) × AllCome answers
+AllCome (a ∷ answers) = (a.hse ≡ true) × (a.pll ≡ true) × (a.latency ≡ true) × (a.switch ≡ true) × (a.over ≡ true) × (a.over_switch ≡ true) × AllCome answers
 
 abbrev pub IsDone : Config → Type 0
 IsDone (Running left s) = ⊥

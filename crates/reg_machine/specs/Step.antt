@@ -16,12 +16,18 @@ use Rattle.reg_machine.specs.Words.{slot, word_of, pll_source}
 use Rattle.reg_machine.specs.Rules.{bars}
 use Rattle.reg_machine.specs.Awaits.{is_lawful}
 
--- the pending flags that an answer names come: HSE, then the PLL, the latency and the switch
+-- the pending flags that an answer names come: HSE, then the PLL, the latency, the switch, over-drive and its switch
 abbrev pub hse_after : Answer → State → Bool
 hse_after a s = s.hse_ready || (a.hse && bit_of 16 s.cr)
 
 abbrev pub pll_after : Answer → State → Bool
 pll_after a s = s.pll_ready || (a.pll && (bit_of 24 s.cr && (if pll_source s.pllcfgr == 1 then hse_after a s else true)))
+
+abbrev pub over_after : Answer → State → Bool
+over_after a s = s.over_ready || (a.over && (bit_of 16 s.pwr_cr && bit_of 24 s.cr))
+
+abbrev pub switched_after : Answer → State → Bool
+switched_after a s = s.over_switched || (a.over_switch && (bit_of 17 s.pwr_cr && over_after a s))
 
 abbrev pub flags : Answer → State → State
 flags a s =
@@ -30,6 +36,8 @@ flags a s =
       pll_ready = pll_after a s;
       latency = if a.latency then s.acr % 8 else s.latency;
       source = if a.switch then s.cfgr % 4 else s.source;
+      over_ready = over_after a s;
+      over_switched = switched_after a s;
     }
 
 -- the value that a modify writes
@@ -46,6 +54,7 @@ stored reg.Acr value s = record s { acr = value; acr_written = true }
 stored reg.Ahb1enr value s = record s { ahb1enr = value; ahb_read = bit_and s.ahb_read s.ahb1enr }
 stored reg.Apb1enr value s = record s { apb1enr = value; apb_read = bit_and s.apb_read s.apb1enr }
 stored reg.PwrCr value s = record s { pwr_cr = value }
+stored reg.PwrCsr value s = s
 stored (reg.Gpio port k) value s = record s { gpio = set s.gpio (slot port k) value }
 
 -- what a read leaves: the enable bits that are set are now read
@@ -57,6 +66,7 @@ noted reg.Acr s = s
 noted reg.Ahb1enr s = record s { ahb_read = s.ahb1enr }
 noted reg.Apb1enr s = record s { apb_read = s.apb1enr }
 noted reg.PwrCr s = s
+noted reg.PwrCsr s = s
 noted (reg.Gpio port k) s = s
 
 -- an op is done: the next await begins at no polls
@@ -81,6 +91,7 @@ is_acr reg.Ahb1enr = false
 is_acr reg.Apb1enr = false
 is_acr reg.Acr = true
 is_acr reg.PwrCr = false
+is_acr reg.PwrCsr = false
 is_acr (reg.Gpio port k) = false
 
 -- FLASH_ACR takes no modify, and an await has a poll and is lawful

@@ -7,10 +7,11 @@ use Rattle.res_model.specs.declared.clock.Facts.{Facts}
 use Rattle.res_model.specs.declared.clock.Nodes.{Nodes}
 use Rattle.res_model.specs.declared.clock.Src.{Src}
 use Rattle.res_model.specs.declared.clock.Src.TheVariants.{Hsi, Hse, Pll}
+use Rattle.reg_machine.specs.Power.{step_of_power}
 use Rattle.reg_machine.specs.Words.{pll_source}
 use Rattle.reg_machine.specs.declared.state.State.{State}
 
--- ---- the fields of RCC_PLLCFGR, RCC_CFGR and PWR_CR
+-- ---- the fields of RCC_PLLCFGR and RCC_CFGR
 
 abbrev pub m_of : ℕ → ℕ
 m_of word = field_of 0 6 word
@@ -42,9 +43,6 @@ ppre1_of word = ppre_value (field_of 10 3 word)
 abbrev pub ppre2_of : ℕ → ℕ
 ppre2_of word = ppre_value (field_of 13 3 word)
 
-abbrev pub vos_of : ℕ → ℕ
-vos_of word = if bit_of 14 word then 1 else 2
-
 -- as SW, SWS and SRC say it
 abbrev pub src_of : ℕ → Src
 src_of code = if code == 0 then Hsi else (if code == 1 then Hse else Pll)
@@ -62,7 +60,7 @@ choice_of s source = record {
   q = q_of s.pllcfgr;
   ppre1 = ppre1_of s.cfgr;
   ppre2 = ppre2_of s.cfgr;
-  vos = vos_of s.pwr_cr;
+  vos = step_of_power s;
 }
 
 -- the nodes of a choice, and those of the PLL where it is on

@@ -26,7 +26,8 @@ number kind.Afrh = 5
 abbrev pub slot : ℕ → GpioReg → ℕ
 slot port k = port * 6 + number k
 
--- a register's word as it reads: the ready bits are the flags, SWS is the source and LATENCY the latency in effect
+-- a register's word as it reads: the ready bits are the flags, SWS is the source and LATENCY the latency in effect. Of
+-- PWR_CSR only ODRDY and ODSWRDY read
 abbrev pub word_of : State → Reg → ℕ
 word_of s reg.Cr = bit_or (bit_or (bit_or s.cr 2) (flag s.hse_ready (2 ^ 17))) (flag s.pll_ready (2 ^ 25))
 word_of s reg.Pllcfgr = s.pllcfgr
@@ -35,6 +36,7 @@ word_of s reg.Ahb1enr = s.ahb1enr
 word_of s reg.Apb1enr = s.apb1enr
 word_of s reg.Acr = s.acr - s.acr % 8 + s.latency
 word_of s reg.PwrCr = s.pwr_cr
+word_of s reg.PwrCsr = flag s.over_ready (2 ^ 16) + flag s.over_switched (2 ^ 17)
 word_of s (reg.Gpio port k) = get_or s.gpio (slot port k) 0
 
 -- whether a source is ready: HSI 0, HSE 1, PLL 2

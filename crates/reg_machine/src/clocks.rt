@@ -4,15 +4,17 @@ ghost use Rattle.reg_map.specs.Fields.{bit_of};
 ghost use Rattle.res_model.specs.Clock.{IsInRange};
 ghost use Rattle.reg_machine.specs.Words.{IsStored};
 ghost use Rattle.reg_machine.specs.Tree.{hpre_value, ppre_value, src_of, choice_of, nodes_where, tree_of};
+ghost use Rattle.reg_machine.specs.Power.{step_of_power};
 ghost use Rattle.reg_machine.specs.Legal.{is_choice_legal, are_within_some, is_vco_legal};
 
-use crate::rules::{PLLON, VOS, bit};
+use crate::power::power_of;
+use crate::rules::{PLLON, bit};
 use crate::state::State;
 use clock_tree::nodes;
 use power_flash::{is_within_scale, row_covers};
 use reg_map::{Field, field_get};
 use res_base::Ratio;
-use res_model::{ClockChoice, Facts, Nodes, Src, Tables};
+use res_model::{ClockChoice, Facts, Nodes, Src, Tables, speeds_at};
 
 const PLLM: Field = Field { low: 0, width: 6 };
 
@@ -71,12 +73,13 @@ pub fn is_choice_legal(t: &Tables, f: &Facts, s: &State, source: u32) -> bool
 {
     let c = choice_of(s, source);
     let n = all_nodes(f, &c);
-    let limits = &t.parts().limits;
-    n.sysclk.at_most_whole(limits.sysclk)
-        && is_within_scale(t.parts(), &n.hclk, u16::from(c.vos))
+    let step = u16::from(c.vos);
+    let speeds = speeds_at(t.parts(), step);
+    n.sysclk.at_most_whole(speeds.sysclk)
+        && is_within_scale(t.parts(), &n.hclk, step)
         && row_covers(t, f.vdd, s.latency as u8, &n.hclk)
-        && n.pclk1.at_most_whole(limits.pclk1)
-        && n.pclk2.at_most_whole(limits.pclk2)
+        && n.pclk1.at_most_whole(speeds.pclk1)
+        && n.pclk2.at_most_whole(speeds.pclk2)
 }
 
 /// Whether the VCO's input and the VCO are within their bounds, where PLLON is set.
@@ -121,7 +124,17 @@ fn fields_of(s: &State, source: u32) -> ClockChoice
         q: field_get(s.pllcfgr, PLLQ) as u8,
         ppre1: ppre_value(field_get(s.cfgr, PPRE1)),
         ppre2: ppre_value(field_get(s.cfgr, PPRE2)),
-        vos: if bit(VOS, s.pwr_cr) { 1 } else { 2 },
+        vos: step_of_power(s),
+    }
+}
+
+/// The number of the power step in effect, or 0.
+fn step_of_power(s: &State) -> u8
+    ensures { result ≡ step_of_power s.now }
+{
+    match power_of(s) {
+        Some(step) => step,
+        None => 0,
     }
 }
 

@@ -7,6 +7,7 @@ ghost use Rattle.reg_machine.specs.Reset.{reset_gpio, reset_of};
 use crate::clocks::{is_choice_legal, is_vco_legal, src_of, tree_of};
 use crate::op::{Answer, Op, Stepped};
 use crate::pins::{are_pins_legal, mode_at};
+use crate::power::{power_of, vos_mask};
 use crate::state::{State, Target};
 use crate::step;
 use power_flash::prefetch;
@@ -44,6 +45,7 @@ impl Machine {
     ghost use Rattle.reg_machine.specs.Step.{flags, step_of};
     ghost use Rattle.reg_machine.specs.Legal.{IsLegal, is_legal};
     ghost use Rattle.reg_machine.specs.Pins.{mode_at};
+    ghost use Rattle.reg_machine.specs.Power.{power_of};
     ghost use Rattle.reg_machine.specs.Tree.{src_of, tree_of};
 
     /// The machine after reset.
@@ -87,7 +89,8 @@ impl Machine {
         step::word(&self.state, r)
     }
 
-    /// Whether the state keeps the limits of the table, and each pin in alternate mode has its function.
+    /// Whether there is a power step in effect, the state keeps the limits of the table at it, and each pin in alternate mode
+    /// has its function.
     pub fn legal(&self) -> bool
         ensures test { result ≡ is_legal self.now.table self.now.want self.now.state }
         ensures means { IsTrue result ↔ IsLegal self.now.table self.now.want self.now.state }
@@ -107,6 +110,14 @@ impl Machine {
         ensures { result ≡ self.now.state.latency }
     {
         self.state.latency as u8
+    }
+
+    /// The power step in effect: the scale that VOS names, with over-drive where ODSWRDY is 1 (RM0090, PWR_CR and PWR_CSR).
+    /// None where VOS names no scale, and where over-drive is on at scale 3.
+    pub fn power_of(&self) -> Option<u8>
+        ensures { result ≡ power_of self.now.state }
+    {
+        power_of(&self.state)
     }
 
     /// The clock tree for the source in effect. The nodes of the PLL are None where it is off.
@@ -130,7 +141,8 @@ fn is_legal(t: &Tables, want: &Target, s: &State) -> bool
     requires hse { want.now.facts.hse_hz < 2 ^ 32 }
     ensures { result ≡ is_legal t.now want.now s.now }
 {
-    is_choice_legal(t, &want.facts, s, s.source)
+    power_of(s).is_some()
+        && is_choice_legal(t, &want.facts, s, s.source)
         && is_choice_legal(t, &want.facts, s, s.cfgr % 4)
         && is_vco_legal(t, &want.facts, s)
         && are_pins_legal(want, &s.gpio)
@@ -148,17 +160,20 @@ fn reset_state(t: &Tables, want: &Target) -> State
         ahb_read: 0,
         apb1enr: 0,
         apb_read: 0,
-        pwr_cr: 0x0000_4000,
+        pwr_cr: vos_mask(t.version()),
         gpio: reset_gpio(),
         hse_ready: false,
         pll_ready: false,
         latency: 0,
         source: 0,
+        over_ready: false,
+        over_switched: false,
         acr_written: false,
         polls: 0,
         osc_in: want.facts.osc_in,
         bypass: want.facts.bypass,
         prefetch: prefetch(t, want.facts.vdd),
+        version: t.version(),
     }
 }
 

@@ -1,13 +1,16 @@
 //! Accesses, and what a step of one may answer.
 use reg_map::Reg;
 
-/// What an await waits for: the HSE or the PLL to be ready, the latency of the flash, or the switch of SYSCLK.
+/// What an await waits for: the HSE or the PLL to be ready, the latency of the flash, the switch of SYSCLK, over-drive to be
+/// ready, or its switch.
 #[derive(Clone, Copy, Debug, PartialEq, Eq)]
 pub enum Timeout {
     Hse,
     Pll,
     Latency,
     Switch,
+    Over,
+    OverSwitch,
 }
 
 /// An access to a register.
@@ -36,13 +39,16 @@ pub enum Op {
     },
 }
 
-/// Which of the pending flags come: HSERDY, PLLRDY, the latency that was asked for, and the source that SW asks for.
+/// Which of the pending flags come: HSERDY, PLLRDY, the latency that was asked for, the source that SW asks for, ODRDY, and
+/// ODSWRDY.
 #[derive(Clone, Copy, Debug, PartialEq, Eq)]
 pub struct Answer {
     pub hse: bool,
     pub pll: bool,
     pub latency: bool,
     pub switch: bool,
+    pub over: bool,
+    pub over_switch: bool,
 }
 
 /// What is forbidden, by this project's own rules, after RM0090. A source is in use where it is in effect, or SW asks for
@@ -59,7 +65,8 @@ pub enum Rule {
     HseOffInUse,
     /// RCC_CR: PLLON set while the source that SRC names is not ready, or M, N or Q is none that the PLL takes.
     PllOnUnfit,
-    /// RCC_CR: PLLON cleared while the PLL is in effect or asked for, or a bit changed that is none of its fields.
+    /// RCC_CR: PLLON cleared while the PLL is in effect or asked for, or ODEN is set, or a bit changed that is none of its
+    /// fields.
     PllOffInUseOrOtherBit,
     /// RCC_PLLCFGR written while PLLON is set.
     PllcfgrWithPllOn,
@@ -75,7 +82,7 @@ pub enum Rule {
     PowerDisabledOrOtherBit,
     /// PWR_CR written while PWREN is 0, or was not read since it was set.
     PwrCrBeforeEnable,
-    /// PWR_CR: VOS changed while PLLON is set, or another bit changed.
+    /// PWR_CR: VOS changed while PLLON is set, or naming no scale, or a bit changed that is none of its fields.
     ScaleWithPllOnOrOtherBit,
     /// FLASH_ACR by a modify, or a bit set that is none of its fields.
     AcrModifiedOrOtherBit,
@@ -85,13 +92,19 @@ pub enum Rule {
     GpioBeforeEnable,
     /// An await without polls, or one that waits for what does not come.
     AwaitUnlawful,
+    /// PWR_CR: ODEN set while PLLON is 0, or the PLL is in effect or asked for, or VOS names scale 3; or ODEN cleared.
+    OverOnUnfit,
+    /// PWR_CR: ODSWEN set while over-drive is not ready, or the PLL is in effect or asked for; or ODSWEN cleared.
+    OverSwitchUnfit,
+    /// PWR_CSR written.
+    PwrCsrWritten,
 }
 
 impl Rule {
     ghost use Rattle.std.specs.Prelude.{◌≡◌};
     ghost use Rattle.reg_machine.specs.Rules.{number_of};
 
-    /// The number by which it is printed, 1 to 18.
+    /// The number by which it is printed, 1 to 21.
     pub fn number(self) -> u8
         ensures { result ≡ number_of self }
     {
@@ -114,6 +127,9 @@ impl Rule {
             Rule::PrefetchAtLowSupply => 16,
             Rule::GpioBeforeEnable => 17,
             Rule::AwaitUnlawful => 18,
+            Rule::OverOnUnfit => 19,
+            Rule::OverSwitchUnfit => 20,
+            Rule::PwrCsrWritten => 21,
         }
     }
 }

@@ -3,9 +3,11 @@ ghost use Rattle.std.specs.Prelude.{if◌then◌else◌, ◌≡◌, ℕ, ◌%◌
 ghost use Rattle.reg_map.specs.Fields.{bit_of};
 ghost use Rattle.reg_map.specs.Registers.{IsRegister};
 ghost use Rattle.reg_machine.specs.Words.{is_ready, in_use, is_whole, pll_source};
-ghost use Rattle.reg_machine.specs.Rules.{differ, sets, clears, changes, hsi_off_in_use, bypass_changed_with_hse_on, hse_on_unlike_target, hse_off_in_use, pll_on_unfit, pll_off_in_use_or_other_bit, pllcfgr_with_pll_on, pllcfgr_out_of_range, switch_to_unready, cfgr_other_bit, port_disabled_or_other_bit, power_disabled_or_other_bit, pwr_cr_before_enable, scale_with_pll_on_or_other_bit, acr_other_bit, prefetch_at_low_supply, gpio_before_enable, either, bars_cr, bars};
+ghost use Rattle.reg_machine.specs.Power.{vos_mask, pwr_others, scale_of};
+ghost use Rattle.reg_machine.specs.Rules.{differ, sets, clears, changes, hsi_off_in_use, bypass_changed_with_hse_on, hse_on_unlike_target, hse_off_in_use, pll_on_unfit, pll_in_effect, pll_off_in_use_or_other_bit, pllcfgr_with_pll_on, pllcfgr_out_of_range, switch_to_unready, cfgr_other_bit, port_disabled_or_other_bit, power_disabled_or_other_bit, pwr_cr_before_enable, scale_with_pll_on_or_other_bit, over_on_unfit, over_switch_unfit, acr_other_bit, prefetch_at_low_supply, gpio_before_enable, either, bars_cr, bars_pwr_cr, bars};
 
 use crate::op::Rule;
+use crate::power::{pwr_others, scale_of, vos_mask};
 use crate::state::State;
 use reg_map::Reg;
 
@@ -19,7 +21,9 @@ pub const PLLON: u32 = 24;
 
 const PWREN: u32 = 28;
 
-pub const VOS: u32 = 14;
+pub const ODEN: u32 = 16;
+
+pub const ODSWEN: u32 = 17;
 
 const PRFTEN: u32 = 8;
 
@@ -56,12 +60,8 @@ pub fn barred(s: &State, r: Reg, value: u32) -> Option<Rule>
             Rule::PrefetchAtLowSupply,
             prefetch_at_low_supply(s, value),
         ),
-        Reg::PwrCr => either(
-            Rule::PwrCrBeforeEnable,
-            pwr_cr_before_enable(s),
-            Rule::ScaleWithPllOnOrOtherBit,
-            scale_with_pll_on_or_other_bit(s, value),
-        ),
+        Reg::PwrCr => barred_pwr_cr(s, value),
+        Reg::PwrCsr => Some(Rule::PwrCsrWritten),
         Reg::Gpio { port, kind: _ } => alone(Rule::GpioBeforeEnable, gpio_before_enable(s, port)),
     }
 }
@@ -102,6 +102,22 @@ fn barred_cr(s: &State, value: u32) -> Option<Rule>
     }
 }
 
+fn barred_pwr_cr(s: &State, value: u32) -> Option<Rule>
+    ensures { result ≡ bars_pwr_cr s.now value }
+{
+    if pwr_cr_before_enable(s) {
+        Some(Rule::PwrCrBeforeEnable)
+    } else if scale_with_pll_on_or_other_bit(s, value) {
+        Some(Rule::ScaleWithPllOnOrOtherBit)
+    } else if over_on_unfit(s, value) {
+        Some(Rule::OverOnUnfit)
+    } else if over_switch_unfit(s, value) {
+        Some(Rule::OverSwitchUnfit)
+    } else {
+        None
+    }
+}
+
 fn hsi_off_in_use(s: &State, value: u32) -> bool
     ensures { result ≡ hsi_off_in_use s.now value }
 {
@@ -132,10 +148,17 @@ fn pll_on_unfit(s: &State, value: u32) -> bool
     sets(PLLON, s.cr, value) && (!is_ready(s, pll_source(s.pllcfgr)) || !is_whole(s.pllcfgr))
 }
 
+/// Whether the PLL is in effect or asked for.
+fn pll_in_effect(s: &State) -> bool
+    ensures { result ≡ pll_in_effect s.now }
+{
+    s.source == 2 || s.cfgr % 4 == 2
+}
+
 fn pll_off_in_use_or_other_bit(s: &State, value: u32) -> bool
     ensures { result ≡ pll_off_in_use_or_other_bit s.now value }
 {
-    (clears(PLLON, s.cr, value) && (s.source == 2 || s.cfgr % 4 == 2))
+    (clears(PLLON, s.cr, value) && (pll_in_effect(s) || bit(ODEN, s.pwr_cr)))
         || changes(0xFCF8_FFFC, s.cr, value)
 }
 
@@ -184,8 +207,24 @@ fn pwr_cr_before_enable(s: &State) -> bool
 fn scale_with_pll_on_or_other_bit(s: &State, value: u32) -> bool
     ensures { result ≡ scale_with_pll_on_or_other_bit s.now value }
 {
-    (bit(PLLON, s.cr) && differ(bit(VOS, s.pwr_cr), bit(VOS, value)))
-        || changes(0xFFFF_BFFF, s.pwr_cr, value)
+    (bit(PLLON, s.cr) && changes(vos_mask(s.version), s.pwr_cr, value))
+        || 3 < scale_of(s.version, value)
+        || changes(pwr_others(s.version), s.pwr_cr, value)
+}
+
+fn over_on_unfit(s: &State, value: u32) -> bool
+    ensures { result ≡ over_on_unfit s.now value }
+{
+    (sets(ODEN, s.pwr_cr, value)
+        && (!bit(PLLON, s.cr) || pll_in_effect(s) || scale_of(s.version, s.pwr_cr) == 3))
+        || clears(ODEN, s.pwr_cr, value)
+}
+
+fn over_switch_unfit(s: &State, value: u32) -> bool
+    ensures { result ≡ over_switch_unfit s.now value }
+{
+    (sets(ODSWEN, s.pwr_cr, value) && (!s.over_ready || pll_in_effect(s)))
+        || clears(ODSWEN, s.pwr_cr, value)
 }
 
 fn acr_other_bit(s: &State, value: u32) -> bool

@@ -13,8 +13,8 @@ pub struct Target {
 /// The words are those that were written. `gpio` has the word of port p and kind k at 6 * p + k, in the order MODER,
 /// OTYPER, OSPEEDR, PUPDR, AFRL, AFRH. `ahb_read` and `apb_read` have the enable bits whose register was read since
 /// they were set. `latency` and `source` are in effect (HSI 0, HSE 1, PLL 2). `polls` are those of the current await.
-/// The last three are facts of the target: that the HSE has an input, that it bypasses the oscillator, and that the
-/// supply allows prefetch.
+/// The last four are facts of the target and the table: that the HSE has an input, that it bypasses the oscillator, that the
+/// supply allows prefetch, and the version of the table, which tells whether the part has over-drive.
 #[derive(Clone, Copy, Debug, PartialEq, Eq)]
 pub struct State {
     pub cr: u32,
@@ -31,9 +31,12 @@ pub struct State {
     pub pll_ready: bool,
     pub latency: u32,
     pub source: u32,
+    pub over_ready: bool,
+    pub over_switched: bool,
     pub acr_written: bool,
     pub polls: u32,
     pub osc_in: bool,
     pub bypass: bool,
     pub prefetch: bool,
+    pub version: u8,
 }

@@ -3,11 +3,11 @@ ghost use Rattle.std.specs.Prelude.{◌≡◌, ℕ, ◌+◌, ◌*◌, ◌^◌, �
 ghost use Rattle.reg_map.specs.Registers.{IsRegister};
 ghost use Rattle.reg_machine.specs.Words.{word_of, number, slot, IsStored, IsOp};
 ghost use Rattle.reg_machine.specs.Rules.{bars};
-ghost use Rattle.reg_machine.specs.Awaits.{awaits_ready, awaits_switch, awaits_latency, is_lawful};
-ghost use Rattle.reg_machine.specs.Step.{flags, stored, noted, went, store, poll, is_acr, act, step_of};
+ghost use Rattle.reg_machine.specs.Awaits.{awaits_ready, awaits_switch, awaits_latency, awaits_over, is_lawful};
+ghost use Rattle.reg_machine.specs.Step.{over_after, switched_after, flags, stored, noted, went, store, poll, is_acr, act, step_of};
 
 use crate::op::{Answer, Op, Rule, Stepped, Timeout};
-use crate::rules::{HSEON, PLLON, barred, bit};
+use crate::rules::{HSEON, ODEN, ODSWEN, PLLON, barred, bit};
 use crate::state::State;
 use reg_map::{GpioReg, Reg};
 
@@ -50,6 +50,18 @@ pub fn step(s: &mut State, op: &Op, a: Answer) -> Stepped
     }
 }
 
+fn over_ready(s: &State, a: Answer) -> bool
+    ensures { result ≡ over_after a s.now }
+{
+    s.over_ready || (a.over && bit(ODEN, s.pwr_cr) && bit(PLLON, s.cr))
+}
+
+fn over_switched(s: &State, a: Answer) -> bool
+    ensures { result ≡ switched_after a s.now }
+{
+    s.over_switched || (a.over_switch && bit(ODSWEN, s.pwr_cr) && over_ready(s, a))
+}
+
 pub fn with_flags(s: &State, a: Answer) -> State
     requires { IsStored s.now }
     ensures new { result ≡ flags a s.now }
@@ -66,6 +78,8 @@ pub fn with_flags(s: &State, a: Answer) -> State
         pll_ready: s.pll_ready || (a.pll && bit(PLLON, s.cr) && source_ready),
         latency: if a.latency { s.acr % 8 } else { s.latency },
         source: if a.switch { s.cfgr % 4 } else { s.source },
+        over_ready: over_ready(s, a),
+        over_switched: over_switched(s, a),
         ..*s
     }
 }
@@ -143,6 +157,7 @@ fn put(s: &mut State, r: Reg, value: u32)
             s.apb1enr = value;
         }
         Reg::PwrCr => s.pwr_cr = value,
+        Reg::PwrCsr => {}
         Reg::Gpio { port, kind } => {
             let i = slot(port, kind);
             s.gpio[i] = value;
@@ -187,6 +202,7 @@ fn lawful(s: &State, r: Reg, mask: u32, want: u32, name: Timeout) -> bool
         Reg::Cr => awaits_ready(s, name, mask, want),
         Reg::Cfgr => awaits_switch(s, name, mask, want),
         Reg::Acr => awaits_latency(s, name, mask, want),
+        Reg::PwrCsr => awaits_over(s, name, mask, want),
         _ => false,
     }
 }
@@ -219,6 +235,18 @@ fn awaits_latency(s: &State, name: Timeout, mask: u32, want: u32) -> bool
     }
 }
 
+fn awaits_over(s: &State, name: Timeout, mask: u32, want: u32) -> bool
+    ensures { result ≡ awaits_over s.now name mask want }
+{
+    match name {
+        Timeout::Over => mask == 0x0001_0000 && want == 0x0001_0000 && bit(ODEN, s.pwr_cr),
+        Timeout::OverSwitch => {
+            mask == 0x0002_0000 && want == 0x0002_0000 && bit(ODSWEN, s.pwr_cr)
+        }
+        _ => false,
+    }
+}
+
 pub fn word(s: &State, r: Reg) -> u32
     requires stored { IsStored s.now }
     requires port { IsRegister r }
@@ -236,6 +264,11 @@ pub fn word(s: &State, r: Reg) -> u32
         Reg::Ahb1enr => s.ahb1enr,
         Reg::Apb1enr => s.apb1enr,
         Reg::PwrCr => s.pwr_cr,
+        Reg::PwrCsr => {
+            let ready = if s.over_ready { 1 << 16 } else { 0 };
+            let switched = if s.over_switched { 1 << 17 } else { 0 };
+            ready + switched
+        }
         Reg::Gpio { port, kind } => s.gpio[slot(port, kind)],
     }
 }

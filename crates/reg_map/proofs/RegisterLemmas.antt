@@ -13,6 +13,7 @@ none_at at lone ports reg.Ahb1enr i = lone reg.Ahb1enr tt
 none_at at lone ports reg.Apb1enr i = lone reg.Apb1enr tt
 none_at at lone ports reg.Acr i = lone reg.Acr tt
 none_at at lone ports reg.PwrCr i = lone reg.PwrCr tt
+none_at at lone ports reg.PwrCsr i = lone reg.PwrCsr tt
 none_at at lone ports (reg.Gpio port kind) i = ports port kind i
 
 pub if_none : {X : Type 0} (o : Option X) (P Q : Type 0) → (P → Q) → IfNone o P → IfNone o Q

@@ -29,6 +29,7 @@ address reg.Ahb1enr = 0x40023830
 address reg.Apb1enr = 0x40023840
 address reg.Acr = 0x40023C00
 address reg.PwrCr = 0x40007000
+address reg.PwrCsr = 0x40007004
 address (reg.Gpio port k) = gpio_base + port_size * port + offset k
 
 -- a register of a port that there is, A to I
@@ -40,6 +41,7 @@ IsRegister reg.Ahb1enr = Unit {0}
 IsRegister reg.Apb1enr = Unit {0}
 IsRegister reg.Acr = Unit {0}
 IsRegister reg.PwrCr = Unit {0}
+IsRegister reg.PwrCsr = Unit {0}
 IsRegister (reg.Gpio port k) = port < 9
 
 -- a register of no port
@@ -51,4 +53,5 @@ StandsAlone reg.Ahb1enr = Unit {0}
 StandsAlone reg.Apb1enr = Unit {0}
 StandsAlone reg.Acr = Unit {0}
 StandsAlone reg.PwrCr = Unit {0}
+StandsAlone reg.PwrCsr = Unit {0}
 StandsAlone (reg.Gpio port k) = ⊥

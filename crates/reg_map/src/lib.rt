@@ -1,4 +1,4 @@
-//! The registers that start an STM32F405/407 (RM0090), their addresses, and the fields of a word.
+//! The registers that start an STM32F405/407 or an STM32F42x/43x (RM0090), their addresses, and the fields of a word.
 #![tactic(auto)]
 
 mod field;

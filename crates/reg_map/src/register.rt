@@ -24,6 +24,7 @@ pub enum Reg {
     Apb1enr,
     Acr,
     PwrCr,
+    PwrCsr,
     Gpio { port: u8, kind: GpioReg },
 }
 
@@ -44,6 +45,7 @@ pub fn addr(r: Reg) -> u32
         Reg::Apb1enr => 0x4002_3840,
         Reg::Acr => 0x4002_3C00,
         Reg::PwrCr => 0x4000_7000,
+        Reg::PwrCsr => 0x4000_7004,
         Reg::Gpio { port, kind } => GPIO + PORT * u32::from(port) + offset(kind),
     }
 }
@@ -71,6 +73,7 @@ fn lone_at(at: u32) -> Option<Reg>
         0x4002_3840 => Some(Reg::Apb1enr),
         0x4002_3C00 => Some(Reg::Acr),
         0x4000_7000 => Some(Reg::PwrCr),
+        0x4000_7004 => Some(Reg::PwrCsr),
         _ => None,
     }
 }

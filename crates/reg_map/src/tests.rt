@@ -11,6 +11,7 @@ fn registers_and_fields(rt: HostRuntime) -> Result<(), Fail> {
     assert_eq!(rt; addr(Reg::Acr), 0x4002_3C00, "FLASH_ACR");
     assert_eq!(rt; addr(moder), 0x4002_0C00, "GPIOD_MODER");
     assert_eq!(rt; reg_at(0x4002_0C00), Some(moder), "back");
+    assert_eq!(rt; reg_at(0x4000_7004), Some(Reg::PwrCsr), "PWR_CSR");
     assert_eq!(rt; reg_at(0x4002_0C10), None, "GPIOD_IDR is not among them");
     let q = Field { low: 24, width: 4 };
     assert_eq!(rt; field_get(0x2740_5408, q), 7, "Q of a word");

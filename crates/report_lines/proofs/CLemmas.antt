@@ -1,5 +1,5 @@
 -- The lines of a C text are passed over.
-use Rattle.std.proofs.Common.{◌≡◌, ℕ, ◌+◌, ◌/◌, ◌%◌, ◌==◌, List, [], ◌∷◌, ◌++◌, false, ltb, inl, inr, refl, arith}
+use Rattle.std.proofs.Common.{◌≡◌, ℕ, ◌+◌, ◌/◌, ◌%◌, ◌==◌, List, [], ◌∷◌, ◌++◌, Bool, true, false, ltb, inl, inr, refl, arith}
 use Rattle.std.specs.Prelude.{codes, decimal}
 use Rattle.std.specs.Str.{bytes_eq}
 use Rattle.res_base.specs.Lists.{Each}
@@ -11,7 +11,7 @@ use Rattle.reg_machine.specs.declared.op.Timeout.{Timeout}
 use Rattle.reg_machine.specs.declared.op.Timeout.TheVariants as timeout
 use Rattle.c_print.specs.declared.part.Part.{Part}
 use Rattle.c_print.specs.declared.part.Part.TheVariants as part
-use Rattle.c_print.specs.Text.{part_text, digit, digits_2, digits_4, digits_8, hex, number_after, timeout_name, await_end, op_line, body_lines, c_lines, c_text_of}
+use Rattle.c_print.specs.Text.{part_text, digit, digits_2, digits_4, digits_8, hex, number_after, timeout_name, await_end, op_line, awaits_over, answers_part, body_lines, c_lines, c_text_of}
 use Rattle.refutation.specs.Spelling.{ArePassedOver}
 use Rattle.report_lines.proofs.LineLemmas.{IsClean, Ends, clean_text, clean_append, clean_decimal, above, ends, ends_after, first_line, passed_concat, passed_line}
 
@@ -46,6 +46,8 @@ name_ends timeout.Hse = ends (codes ") return HSE_TIMEOUT; }") (clean_text (code
 name_ends timeout.Pll = ends (codes ") return PLL_TIMEOUT; }") (clean_text (codes ") return PLL_TIMEOUT; }") refl)
 name_ends timeout.Latency = ends (codes ") return LATENCY_TIMEOUT; }") (clean_text (codes ") return LATENCY_TIMEOUT; }") refl)
 name_ends timeout.Switch = ends (codes ") return SWITCH_TIMEOUT; }") (clean_text (codes ") return SWITCH_TIMEOUT; }") refl)
+name_ends timeout.Over = ends (codes ") return OVER_TIMEOUT; }") (clean_text (codes ") return OVER_TIMEOUT; }") refl)
+name_ends timeout.OverSwitch = ends (codes ") return OVER_SWITCH_TIMEOUT; }") (clean_text (codes ") return OVER_SWITCH_TIMEOUT; }") refl)
 
 op_ends : (o : Op) → Ends (op_line o)
 unfolding part_text
@@ -87,6 +89,14 @@ body_passed [] = (
 )
 body_passed (o ∷ os) = (passed_line (op_line o) (op_ends o) (op_other o), body_passed os)
 
+-- the third line, in either form
+answers_passed : (over : Bool) → ArePassedOver (part_text (answers_part over))
+unfolding part_text
+answers_passed false = part_passed (codes "enum { DONE, HSE_TIMEOUT, PLL_TIMEOUT, LATENCY_TIMEOUT, SWITCH_TIMEOUT };") (clean_text (codes "enum { DONE, HSE_TIMEOUT, PLL_TIMEOUT, LATENCY_TIMEOUT, SWITCH_TIMEOUT };") refl) refl
+answers_passed true =
+    part_passed (codes "enum { DONE, HSE_TIMEOUT, PLL_TIMEOUT, LATENCY_TIMEOUT, SWITCH_TIMEOUT, OVER_TIMEOUT, OVER_SWITCH_TIMEOUT };")
+    (clean_text (codes "enum { DONE, HSE_TIMEOUT, PLL_TIMEOUT, LATENCY_TIMEOUT, SWITCH_TIMEOUT, OVER_TIMEOUT, OVER_SWITCH_TIMEOUT };") refl) refl
+
 lines_passed : (ops : List Op) → Each ArePassedOver (c_lines ops)
 unfolding part_text
 lines_passed ops = (
@@ -94,7 +104,7 @@ lines_passed ops = (
   (
     part_passed (codes "#define REG(a) (*(volatile uint32_t *)(a))") (clean_text (codes "#define REG(a) (*(volatile uint32_t *)(a))") refl) refl,
     (
-      part_passed (codes "enum { DONE, HSE_TIMEOUT, PLL_TIMEOUT, LATENCY_TIMEOUT, SWITCH_TIMEOUT };") (clean_text (codes "enum { DONE, HSE_TIMEOUT, PLL_TIMEOUT, LATENCY_TIMEOUT, SWITCH_TIMEOUT };") refl) refl,
+      answers_passed (awaits_over ops),
       (
         part_passed (codes "int board_init(void)") (clean_text (codes "int board_init(void)") refl) refl,
         (

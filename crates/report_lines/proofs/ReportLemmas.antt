@@ -1,5 +1,5 @@
 -- The lines of a report are passed over.
-use Rattle.std.proofs.Common.{◌≡◌, ℕ, zero, suc, ◌==◌, List, [], ◌∷◌, ◌++◌, length, Bool, true, false, eqb, inl, inr, Option, Some, None, refl, sym, ap, subst, ◌∙◌, append_assoc, arith}
+use Rattle.std.proofs.Common.{◌≡◌, ℕ, zero, suc, ◌==◌, List, [], ◌∷◌, ◌++◌, length, Bool, true, false, cond, eqb, inl, inr, Option, Some, None, refl, sym, ap, subst, ◌∙◌, append_assoc, arith}
 use Rattle.std.specs.Prelude.{Ok, map, codes, decimal, find, is_some, slice_get, if◌then◌else◌}
 use Rattle.std.specs.Str.{bytes_eq}
 use Rattle.std.proofs.lemmas.Bool.Decides.{nat_tests}
@@ -10,6 +10,7 @@ use Rattle.res_base.proofs.ListLemmas.{each_map}
 use Rattle.res_base.proofs.SumLemmas.{bool_cases}
 use Rattle.choice_rank.specs.Choices.{choices_of, cost_of, rank_of}
 use Rattle.res_model.specs.Clock.{hse_used, pll_used, nodes_of, hclk_of}
+use Rattle.res_model.specs.ClockValues.{has_over, scale_of_step}
 use Rattle.clock_tree.specs.ClockText.{source_word, source_line, pll_words, pll_line, hse_line, divider_line, floor, node_line, off_line, pll_node_line, choice_lines, first_nodes, last_nodes, wait_word, supply_line, clock_text}
 use Rattle.report.specs.PinText.{mode_text, state_text, pin_name, words_line, pin_line, pin_lines, count_line, pins_text, rank_line}
 use Rattle.res_model.specs.Placed.{IsPlaced, is_held}
@@ -242,8 +243,19 @@ divider_passed c =
     let zero = clean_append (codes "ahb ") (decimal c.hpre) (clean_text (codes "ahb ") refl) (clean_decimal c.hpre) in
     let one = more (codes "ahb " ++ decimal c.hpre) (codes " apb1 ") (decimal c.ppre1) zero (clean_text (codes " apb1 ") refl) (clean_decimal c.ppre1) in
     let two = more (codes "ahb " ++ decimal c.hpre ++ codes " apb1 " ++ decimal c.ppre1) (codes " apb2 ") (decimal c.ppre2) one (clean_text (codes " apb2 ") refl) (clean_decimal c.ppre2) in
-    let three = more (codes "ahb " ++ decimal c.hpre ++ codes " apb1 " ++ decimal c.ppre1 ++ codes " apb2 " ++ decimal c.ppre2) (codes " vos ") (decimal c.vos) two (clean_text (codes " vos ") refl) (clean_decimal c.vos) in
-    passed_line (divider_line c) (ends (codes "ahb " ++ decimal c.hpre ++ codes " apb1 " ++ decimal c.ppre1 ++ codes " apb2 " ++ decimal c.ppre2 ++ codes " vos " ++ decimal c.vos) three) refl
+    passed (scale_of_step c.vos) (has_over c.vos) two
+  where
+    passed : (scale : ℕ) (over : Bool) → IsClean (codes "ahb " ++ decimal c.hpre ++ codes " apb1 " ++ decimal c.ppre1 ++ codes " apb2 " ++ decimal c.ppre2)
+        → ArePassedOver (codes "ahb " ++ decimal c.hpre ++ codes " apb1 " ++ decimal c.ppre1 ++ codes " apb2 " ++ decimal c.ppre2 ++ codes " vos " ++ decimal scale ++ cond over (codes " over\n") (codes "\n"))
+    passed scale false two =
+        let three = more (codes "ahb " ++ decimal c.hpre ++ codes " apb1 " ++ decimal c.ppre1 ++ codes " apb2 " ++ decimal c.ppre2) (codes " vos ") (decimal scale) two (clean_text (codes " vos ") refl) (clean_decimal scale) in
+        passed_line (codes "ahb " ++ decimal c.hpre ++ codes " apb1 " ++ decimal c.ppre1 ++ codes " apb2 " ++ decimal c.ppre2 ++ codes " vos " ++ decimal scale ++ codes "\n")
+        (ends (codes "ahb " ++ decimal c.hpre ++ codes " apb1 " ++ decimal c.ppre1 ++ codes " apb2 " ++ decimal c.ppre2 ++ codes " vos " ++ decimal scale) three) refl
+    passed scale true two =
+        let three = more (codes "ahb " ++ decimal c.hpre ++ codes " apb1 " ++ decimal c.ppre1 ++ codes " apb2 " ++ decimal c.ppre2) (codes " vos ") (decimal scale) two (clean_text (codes " vos ") refl) (clean_decimal scale) in
+        let four = clean_append (codes "ahb " ++ decimal c.hpre ++ codes " apb1 " ++ decimal c.ppre1 ++ codes " apb2 " ++ decimal c.ppre2 ++ codes " vos " ++ decimal scale) (codes " over") three (clean_text (codes " over") refl) in
+        passed_line (codes "ahb " ++ decimal c.hpre ++ codes " apb1 " ++ decimal c.ppre1 ++ codes " apb2 " ++ decimal c.ppre2 ++ codes " vos " ++ decimal scale ++ codes " over\n")
+        (ends (codes "ahb " ++ decimal c.hpre ++ codes " apb1 " ++ decimal c.ppre1 ++ codes " apb2 " ++ decimal c.ppre2 ++ codes " vos " ++ decimal scale ++ codes " over") four) refl
 
 choice_passed : (f : Facts) (c : ClockChoice) → ArePassedOver (choice_lines f c)
 unfolding choice_lines pll_line hse_line

@@ -3,7 +3,8 @@
 use Rattle.std.specs.Prelude.{ℕ, ◌==◌, ◌&&◌, ◌||◌, ◌↔◌, Bool, true, not, nat_le, if◌then◌else◌, IsTrue, List, [], ◌∷◌, Option, Some, None}
 use Rattle.res_base.specs.Fraction.{Fraction, IsAtMost, Equals, at_most, whole}
 use Rattle.res_model.specs.Clock.{IsBetween, hse_used, pll_used, vco_in_of, vco_of, clk48_of, sysclk_of, hclk_of, pclk1_of, pclk2_of}
-use Rattle.res_model.specs.Power.{RowCovers, is_covered, scale_limit, is_within_max}
+use Rattle.res_model.specs.ClockValues.{has_over}
+use Rattle.res_model.specs.Power.{RowCovers, is_covered, speeds_at, scale_limit, is_within_max}
 use Rattle.res_model.specs.declared.clock.ClockChoice.{ClockChoice}
 use Rattle.res_model.specs.declared.clock.Facts.{Facts}
 use Rattle.res_model.specs.declared.table.TableParts.{TableParts}
@@ -32,24 +33,24 @@ VcoInIsWithin t f c = IsTrue (pll_used f c) → AreWithin t.limits.vco_in (vco_i
 abbrev pub VcoIsWithin : TableParts → Facts → ClockChoice → Type 0
 VcoIsWithin t f c = IsTrue (pll_used f c) → AreWithin t.limits.vco (vco_of f c)
 
--- 6: SYSCLK is at most its limit
+-- 6: SYSCLK is at most the limit of the power step
 abbrev pub SysclkIsWithin : TableParts → Facts → ClockChoice → Type 0
-SysclkIsWithin t f c = IsAtMost (sysclk_of f c) (whole t.limits.sysclk)
+SysclkIsWithin t f c = IsAtMost (sysclk_of f c) (whole (speeds_at t c.vos).sysclk)
 
 abbrev pub IsWithinMax : Fraction → Option ℕ → Type 0
 IsWithinMax hclk None = ⊥
 IsWithinMax hclk (Some max) = IsAtMost hclk (whole max)
 
--- 7: HCLK is at most the limit of the scale
+-- 7: HCLK is at most the limit of the power step
 abbrev pub HclkIsWithinScale : TableParts → Facts → ClockChoice → Type 0
 HclkIsWithinScale t f c = IsWithinMax (hclk_of f c) (scale_limit t c.vos)
 
--- 8 and 9: PCLK1 and PCLK2 are at most their limits
+-- 8 and 9: PCLK1 and PCLK2 are at most the limits of the power step
 abbrev pub Pclk1IsWithin : TableParts → Facts → ClockChoice → Type 0
-Pclk1IsWithin t f c = IsAtMost (pclk1_of f c) (whole t.limits.pclk1)
+Pclk1IsWithin t f c = IsAtMost (pclk1_of f c) (whole (speeds_at t c.vos).pclk1)
 
 abbrev pub Pclk2IsWithin : TableParts → Facts → ClockChoice → Type 0
-Pclk2IsWithin t f c = IsAtMost (pclk2_of f c) (whole t.limits.pclk2)
+Pclk2IsWithin t f c = IsAtMost (pclk2_of f c) (whole (speeds_at t c.vos).pclk2)
 
 -- 10 and 11: where an IP in use needs it, the 48 MHz output is exactly, or at most, 48 MHz
 abbrev pub Clk48IsExact : TableParts → Facts → ClockChoice → Type 0
@@ -80,6 +81,10 @@ Pclk1IsAsWished t f c = IsAsWished f.pclk1 (pclk1_of f c)
 abbrev pub Pclk2IsAsWished : TableParts → Facts → ClockChoice → Type 0
 Pclk2IsAsWished t f c = IsAsWished f.pclk2 (pclk2_of f c)
 
+-- 17: over-drive runs beside the PLL alone
+abbrev pub PllIsUsedWithOver : TableParts → Facts → ClockChoice → Type 0
+PllIsUsedWithOver t f c = IsTrue (has_over c.vos) → IsTrue (pll_used f c)
+
 -- ---- the tests
 
 -- what holds where a condition does
@@ -106,10 +111,10 @@ limits_of t f c =
     (3, where_so (hse_used f c) (is_fed t f))
     ∷ (4, where_so (pll_used f c) (are_within t.limits.vco_in (vco_in_of f c)))
     ∷ (5, where_so (pll_used f c) (are_within t.limits.vco (vco_of f c)))
-    ∷ (6, at_most (sysclk_of f c) (whole t.limits.sysclk))
+    ∷ (6, at_most (sysclk_of f c) (whole (speeds_at t c.vos).sysclk))
     ∷ (7, is_within_max (hclk_of f c) (scale_limit t c.vos))
-    ∷ (8, at_most (pclk1_of f c) (whole t.limits.pclk1))
-    ∷ (9, at_most (pclk2_of f c) (whole t.limits.pclk2))
+    ∷ (8, at_most (pclk1_of f c) (whole (speeds_at t c.vos).pclk1))
+    ∷ (9, at_most (pclk2_of f c) (whole (speeds_at t c.vos).pclk2))
     ∷ (10, where_so f.exact48 (is_equal (clk48_of f c) (whole mhz_48)))
     ∷ (11, where_so f.most48 (at_most (clk48_of f c) (whole mhz_48)))
     ∷ (12, at_most (whole f.floor) (hclk_of f c))
@@ -117,6 +122,7 @@ limits_of t f c =
     ∷ (14, is_as_wished f.hclk (hclk_of f c))
     ∷ (15, is_as_wished f.pclk1 (pclk1_of f c))
     ∷ (16, is_as_wished f.pclk2 (pclk2_of f c))
+    ∷ (17, where_so (has_over c.vos) (pll_used f c))
     ∷ []
 
 -- the limit of a number is met
@@ -153,3 +159,4 @@ pub record TestsTell (t : TableParts) (f : Facts) (c : ClockChoice) : Type 0 whe
   pub hclk_wish : IsTrue (meets_limit t f c 14) ↔ HclkIsAsWished t f c
   pub pclk1_wish : IsTrue (meets_limit t f c 15) ↔ Pclk1IsAsWished t f c
   pub pclk2_wish : IsTrue (meets_limit t f c 16) ↔ Pclk2IsAsWished t f c
+  pub over : IsTrue (meets_limit t f c 17) ↔ PllIsUsedWithOver t f c

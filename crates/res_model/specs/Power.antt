@@ -1,8 +1,12 @@
--- Wait states and scales (RM0090, embedded flash and PWR): what the supply voltage and the voltage regulator allow.
-use Rattle.std.specs.Prelude.{ℕ, ◌<◌, ◌==◌, ◌&&◌, Bool, false, List, [], find, length, nat_le, slice_index, Option, Some, None}
+-- Wait states and power steps (RM0090, embedded flash and PWR): what the supply voltage, and the voltage regulator with
+-- over-drive or without, allow.
+use Rattle.std.specs.Prelude.{ℕ, ◌<◌, ◌==◌, ◌&&◌, Bool, false, List, [], find, length, nat_le, slice_index, if◌then◌else◌, Option, Some, None}
 use Rattle.std.specs.List.{list_any, position_from}
 use Rattle.res_base.specs.Fraction.{Fraction, IsAtMost, at_most, whole}
+use Rattle.res_model.specs.ClockValues.{has_over}
+use Rattle.res_model.specs.declared.table.Bounds.{Bounds}
 use Rattle.res_model.specs.declared.table.FlashRange.{FlashRange}
+use Rattle.res_model.specs.declared.table.Over.{Over}
 use Rattle.res_model.specs.declared.table.Scale.{Scale}
 use Rattle.res_model.specs.declared.table.TableParts.{TableParts}
 
@@ -41,17 +45,29 @@ abbrev pub range_prefetches : Option FlashRange → Bool
 range_prefetches None = false
 range_prefetches (Some r) = r.prefetch
 
--- ---- the scales of the voltage regulator
+-- ---- the limits at a power step
+
+-- the limits of SYSCLK, PCLK1 and PCLK2 without over-drive, and where a table has others with it
+abbrev pub plain_speeds : Bounds → Over
+plain_speeds b = record { sysclk = b.sysclk; pclk1 = b.pclk1; pclk2 = b.pclk2 }
+
+abbrev pub over_speeds : Option Over → Over → Over
+over_speeds None plain = plain
+over_speeds (Some over) plain = over
+
+-- the limits of SYSCLK, PCLK1 and PCLK2 at a power step
+unfoldable pub speeds_at : TableParts → ℕ → Over
+speeds_at t step = if has_over step then over_speeds t.over (plain_speeds t.limits) else plain_speeds t.limits
 
 abbrev pub max_of : Option Scale → Option ℕ
 max_of None = None
 max_of (Some s) = Some s.max
 
--- the greatest HCLK under a scale
+-- the greatest HCLK at a power step, where the table has the step
 unfoldable pub scale_limit : TableParts → ℕ → Option ℕ
-scale_limit t vos = max_of (find (λ (s : Scale). s.vos == vos) t.scales)
+scale_limit t step = max_of (find (λ (s : Scale). s.vos == step) t.scales)
 
--- the scale is there and covers HCLK
+-- the step is there and its limit covers HCLK
 abbrev pub is_within_max : Fraction → Option ℕ → Bool
 is_within_max hclk None = false
 is_within_max hclk (Some max) = at_most hclk (whole max)

@@ -1,7 +1,7 @@
 -- The rules that every table keeps.
 use Rattle.std.specs.Prelude.{◌≡◌, ◌≢◌, ℕ, ◌<◌, ◌≤◌, List, [], ◌∷◌, length, map, Option, Some, None, IfSome, codes, ◌⊎◌, slice_index}
 use Rattle.res_base.specs.Lists.{Each, Member, Pairwise}
-use Rattle.res_model.specs.ClockValues.{ahb_dividers, apb_dividers, pll_dividers, known_scales, hsi}
+use Rattle.res_model.specs.ClockValues.{ahb_dividers, apb_dividers, pll_dividers, known_steps, widest_hclk, hsi}
 use Rattle.res_model.specs.PinNames.{spot}
 use Rattle.res_model.specs.declared.table.Pin.{Pin}
 use Rattle.res_model.specs.declared.table.Role.{Role}
@@ -15,6 +15,7 @@ use Rattle.res_model.specs.declared.table.Domains.{Domains}
 use Rattle.res_model.specs.declared.table.Bounds.{Bounds}
 use Rattle.res_model.specs.declared.table.Scale.{Scale}
 use Rattle.res_model.specs.declared.table.FlashRange.{FlashRange}
+use Rattle.res_model.specs.declared.table.Over.{Over}
 use Rattle.res_model.specs.declared.table.TableParts.{TableParts}
 
 -- ---- texts
@@ -125,7 +126,9 @@ pub record AreAmong (these ns : List ℕ) : Type 0 where
   pub known : Each (λ n. Member n these) ns
   pub ascending : Pairwise ◌<◌ ns
 
-pub record AreDomains (c : Domains) : Type 0 where
+-- the domains of a table of this version. Scale 2 with over-drive is reached by scale 2, so a table that has the first has
+-- the second
+pub record AreDomains (version : ℕ) (c : Domains) : Type 0 where
   pub m : IsRange 2 63 c.m
   pub n : IsRange 50 432 c.n
   pub q : IsRange 2 15 c.q
@@ -137,8 +140,9 @@ pub record AreDomains (c : Domains) : Type 0 where
   pub ppre1_one : Member 1 c.ppre1
   pub ppre2 : AreAmong apb_dividers c.ppre2
   pub ppre2_one : Member 1 c.ppre2
-  pub vos : AreAmong known_scales c.vos
+  pub vos : AreAmong (known_steps version) c.vos
   pub vos_one : Member 1 c.vos
+  pub vos_two : Member 5 c.vos → Member 2 c.vos
 
 -- the HSI is at most each of the limits of the state after reset
 pub record AreBounds (b : Bounds) : Type 0 where
@@ -153,10 +157,24 @@ pub record AreBounds (b : Bounds) : Type 0 where
   pub reset_pclk1 : hsi ≤ b.pclk1
   pub reset_pclk2 : hsi ≤ b.pclk2
 
-abbrev pub IsScale : Scale → Type 0
-IsScale s = (hsi ≤ s.max) × (s.max ≤ 168000000)
+-- the limits with over-drive
+pub record AreSpeeds (o : Over) : Type 0 where
+  pub sysclk : o.sysclk ≤ 180000000
+  pub pclk1 : o.pclk1 ≤ 45000000
+  pub pclk2 : o.pclk2 ≤ 90000000
+  pub reset_sysclk : hsi ≤ o.sysclk
+  pub reset_pclk1 : hsi ≤ o.pclk1
+  pub reset_pclk2 : hsi ≤ o.pclk2
 
--- one for each scale of the clock's list, in its order
+-- tables of version 2 have them, and those of version 1 do not; there is no other version
+abbrev pub HasOver : ℕ → Option Over → Type 0
+HasOver version None = version ≡ 1
+HasOver version (Some o) = (version ≡ 2) × AreSpeeds o
+
+abbrev pub IsScale : Scale → Type 0
+IsScale s = (hsi ≤ s.max) × (s.max ≤ widest_hclk s.vos)
+
+-- one for each power step of the clock's list, in its order
 pub record AreScales (vos : List ℕ) (ss : List Scale) : Type 0 where
   pub order : map (λ (s : Scale). s.vos) ss ≡ vos
   pub each : Each IsScale ss
@@ -207,8 +225,9 @@ pub record IsValid (t : TableParts) : Type 0 where
   pub hse_in : IsText t.hse_in
   pub hse_out : IsText t.hse_out
   pub ips : AreIps t.ips
-  pub clock : AreDomains t.clock
+  pub clock : AreDomains t.version t.clock
   pub limits : AreBounds t.limits
+  pub over : HasOver t.version t.over
   pub scales : AreScales t.clock.vos t.scales
   pub flash : AreFlash t.flash
   pub defaults : AreDefaults t.clock t.defaults

@@ -12,7 +12,7 @@ pub enum Src {
 }
 
 /// A value for each clock variable: the source of SYSCLK, the source of the PLL (HSI or HSE), the divider of AHB,
-/// the PLL's P, M, N and Q, the dividers of APB1 and APB2, and the scale of the voltage regulator.
+/// the PLL's P, M, N and Q, the dividers of APB1 and APB2, and the power step.
 #[derive(Clone, Copy, Debug, PartialEq, Eq)]
 pub struct ClockChoice {
     pub src: Src,

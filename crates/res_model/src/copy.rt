@@ -191,6 +191,7 @@ pub fn copy_parts(alloc: Global, parts: &TableParts) -> Result<TableParts, OutOf
     let scales = copy_scales(alloc, parts.scales.as_slice())?;
     let flash = copy_flash(alloc, parts.flash.as_slice())?;
     Ok(TableParts {
+        version: parts.version,
         names,
         package,
         pins,
@@ -200,6 +201,7 @@ pub fn copy_parts(alloc: Global, parts: &TableParts) -> Result<TableParts, OutOf
         ips,
         clock,
         limits: parts.limits,
+        over: parts.over,
         scales,
         flash,
         defaults: parts.defaults,

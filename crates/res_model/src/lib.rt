@@ -4,13 +4,15 @@
 mod clock;
 mod copy;
 mod opts;
+mod power;
 mod project;
 mod table;
 
 pub use clock::{ClockBox, ClockChoice, Facts, Nodes, Range, Src};
 pub use opts::{Free, Opts};
+pub use power::{has_over, scale_limit, scale_of_step, speeds_at};
 pub use project::{Home, Project, Pull, Signal, Speed};
 pub use table::{
-    Bounds, Domains, FlashRange, Ip, Mode, Need48, Pin, PinUse, Role, Scale, TableParts,
-    TableSignal, Tables,
+    Bounds, Domains, FlashRange, Ip, Mode, Need48, Over, Pin, PinUse, Role, Scale, StepLimits,
+    TableParts, TableSignal, Tables,
 };

@@ -2,6 +2,7 @@ ghost use Rattle.std.specs.Prelude.{◌≡◌, ◌≢◌, ◌<◌, Some, length,
 ghost use Rattle.res_model.specs.PinNames.{place};
 
 use crate::copy::copy_parts;
+use crate::power::{hclk_at, speeds_at};
 use res_base::{Items, OutOfMemory, Text};
 use std::alloc::Global;
 use std::marker::Model;
@@ -93,7 +94,7 @@ pub struct Domains {
     pub vos: Items<u16>,
 }
 
-/// The limits of the clock tree in hertz: ranges from the least to the greatest, and greatest values.
+/// The limits of the clock tree in hertz: ranges from the least to the greatest, and greatest values without over-drive.
 #[derive(Clone, Copy, Debug, PartialEq, Eq)]
 pub struct Bounds {
     pub crystal: (u64, u64),
@@ -105,7 +106,25 @@ pub struct Bounds {
     pub pclk2: u64,
 }
 
-/// A scale of the voltage regulator, and the greatest HCLK under it in hertz.
+/// The greatest SYSCLK, PCLK1 and PCLK2 in hertz, with over-drive or without.
+#[derive(Clone, Copy, Debug, PartialEq, Eq)]
+pub struct Over {
+    pub sysclk: u64,
+    pub pclk1: u64,
+    pub pclk2: u64,
+}
+
+/// The greatest SYSCLK, HCLK, PCLK1 and PCLK2 in hertz at a power step.
+#[derive(Clone, Copy, Debug, PartialEq, Eq)]
+pub struct StepLimits {
+    pub sysclk: u64,
+    pub hclk: u64,
+    pub pclk1: u64,
+    pub pclk2: u64,
+}
+
+/// A power step, and the greatest HCLK at it in hertz. Steps 1 to 3 are the scales of the voltage regulator, and 4 and 5
+/// are scale 1 and scale 2 with over-drive (RM0090, PWR_CR).
 #[derive(Clone, Copy, Debug, PartialEq, Eq)]
 pub struct Scale {
     pub vos: u8,
@@ -122,12 +141,13 @@ pub struct FlashRange {
     pub rows: Items<u64>,
 }
 
-/// What a table says, member by member.
+/// What a table says, member by member. `over` has the limits with over-drive, which parts of version 1 do not have.
 ///
 /// `defaults` stands in the order of the clock variables src, psrc, hpre, p, m, n, q, ppre1, ppre2, vos,
 /// with HSI 0, HSE 1 and PLL 2.
 #[derive(Debug, Drop)]
 pub struct TableParts {
+    pub version: u8,
     pub names: Items<Text>,
     pub package: Text,
     pub pins: Items<Pin>,
@@ -137,6 +157,7 @@ pub struct TableParts {
     pub ips: Items<Ip>,
     pub clock: Domains,
     pub limits: Bounds,
+    pub over: Option<Over>,
     pub scales: Items<Scale>,
     pub flash: Items<FlashRange>,
     pub defaults: [u64; 10],
@@ -162,8 +183,10 @@ impl Model for Tables {
 }
 
 impl Tables {
+    ghost use Rattle.std.specs.Prelude.{IsSome};
     ghost use Rattle.res_base.specs.Lists.{Each};
     ghost use Rattle.res_model.specs.PinNames.{place};
+    ghost use Rattle.res_model.specs.Power.{scale_limit, speeds_at};
     ghost use Rattle.res_model.specs.Valid.{IsValid};
 
     /// The table that says this.
@@ -195,6 +218,31 @@ impl Tables {
         self.keeps_rules();
         let parts = copy_parts(alloc, self.parts())?;
         Ok(Tables::of(parts))
+    }
+
+    /// The version of the table's form: 1 for parts without over-drive, 2 for parts with it.
+    pub fn version(&self) -> u8
+        ensures { result ≡ self.now.version }
+    {
+        self.parts().version
+    }
+
+    /// The limits at a power step that the table has.
+    pub fn limits_at(&self, step: u8) -> StepLimits
+        requires { IsSome (scale_limit self.now step) }
+        ensures hclk { scale_limit self.now step ≡ Some result.hclk }
+        ensures sysclk { result.sysclk ≡ (speeds_at self.now step).sysclk }
+        ensures pclk1 { result.pclk1 ≡ (speeds_at self.now step).pclk1 }
+        ensures pclk2 { result.pclk2 ≡ (speeds_at self.now step).pclk2 }
+    {
+        let hclk = hclk_at(self.parts(), u16::from(step));
+        let speeds = speeds_at(self.parts(), u16::from(step));
+        StepLimits {
+            sysclk: speeds.sysclk,
+            hclk,
+            pclk1: speeds.pclk1,
+            pclk2: speeds.pclk2,
+        }
     }
 
     /// The place of the pin of this name in the list of pins; None where no pin has it.

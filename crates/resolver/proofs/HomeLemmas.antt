@@ -7,7 +7,7 @@ use Rattle.std.proofs.lemmas.Grind.{common_steps}
 use Rattle.res_base.specs.Lists.{Each, Member}
 use Rattle.res_model.specs.Clock.{IsOscillator}
 use Rattle.ioc_project.specs.Project.{all_within, domain_tests, is_among}
-use Rattle.res_model.specs.ClockValues.{ahb_dividers, apb_dividers, pll_dividers, known_scales}
+use Rattle.res_model.specs.ClockValues.{ahb_dividers, apb_dividers, pll_dividers, known_steps}
 use Rattle.res_model.specs.Valid.{AreDomains}
 use Rattle.ioc_project.specs.declared.fault.ProjectFault.TheVariants.{OutOfTable}
 use Rattle.res_model.specs.declared.project.Home.{Home}
@@ -68,9 +68,17 @@ oscillator (suc (suc n)) l = absurd (omega arith)
 below : (n m : ℕ) → (nat_lt n m) ≡ true → n < m
 below n m h = grind (arith, common_steps)
 
-pub fit : (d : Domains) (homes : List Home) → AreDomains d → length homes ≡ 10 → all_within (domain_tests d) homes ≡ Ok tt → AreHomes homes
+-- a power step of either version
+steps_between : (version : ℕ) → list_all (λ x. nat_le 1 x && nat_le x 5) (known_steps version) ≡ true
+steps_between version = case (version == 1)
+  where
+    case : (b : Bool) → list_all (λ x. nat_le 1 x && nat_le x 5) (cond b (1 ∷ 2 ∷ []) (1 ∷ 2 ∷ 3 ∷ 4 ∷ 5 ∷ [])) ≡ true
+    case true = refl
+    case false = refl
+
+pub fit : (version : ℕ) (d : Domains) (homes : List Home) → AreDomains version d → length homes ≡ 10 → all_within (domain_tests d) homes ≡ Ok tt → AreHomes homes
 unfolding home_choice
-fit d homes dom ten h =
+fit version d homes dom ten h =
     let psrc = below (home_at homes 1) 2 (within_at (domain_tests d) homes 1 h (omega arith) (omega arith)) in
     let hpre = member_between 1 512 ahb_dividers (home_at homes 2) refl (among (λ v. Member v ahb_dividers) d.hpre (home_at homes 2) dom.hpre.known (within_at (domain_tests d) homes 2 h (omega arith) (omega arith))) in
     let p = member_between 2 8 pll_dividers (home_at homes 3) refl (among (λ v. Member v pll_dividers) d.p (home_at homes 3) dom.p.known (within_at (domain_tests d) homes 3 h (omega arith) (omega arith))) in
@@ -79,7 +87,7 @@ fit d homes dom ten h =
     let q = both_le d.q.0 d.q.1 (home_at homes 6) (within_at (domain_tests d) homes 6 h (omega arith) (omega arith)) in
     let a = member_between 1 16 apb_dividers (home_at homes 7) refl (among (λ v. Member v apb_dividers) d.ppre1 (home_at homes 7) dom.ppre1.known (within_at (domain_tests d) homes 7 h (omega arith) (omega arith))) in
     let b = member_between 1 16 apb_dividers (home_at homes 8) refl (among (λ v. Member v apb_dividers) d.ppre2 (home_at homes 8) dom.ppre2.known (within_at (domain_tests d) homes 8 h (omega arith) (omega arith))) in
-    let vos = member_between 1 2 known_scales (home_at homes 9) refl (among (λ v. Member v known_scales) d.vos (home_at homes 9) dom.vos.known (within_at (domain_tests d) homes 9 h (omega arith) (omega arith))) in
+    let vos = member_between 1 5 (known_steps version) (home_at homes 9) (steps_between version) (among (λ v. Member v (known_steps version)) d.vos (home_at homes 9) dom.vos.known (within_at (domain_tests d) homes 9 h (omega arith) (omega arith))) in
     let ml : 2 ≤ d.m.0 = dom.m.least in
     let mg : d.m.1 ≤ 63 = dom.m.greatest in
     let nl : 50 ≤ d.n.0 = dom.n.least in

@@ -19,7 +19,7 @@ use Rattle.res_model.specs.declared.table.PinUse.{PinUse}
 use Rattle.res_model.specs.declared.table.TableParts.{TableParts}
 use Rattle.init_gen.specs.Codes.{codes_of}
 use Rattle.init_gen.specs.PinWrites.{gpio_ops, gpio_section, is_left, ops_in, ports}
-use Rattle.init_gen.specs.Writes.{hse_ops, late_ops, pll_ops, switch_ops, vos_ops, writes_of}
+use Rattle.init_gen.specs.Writes.{hse_ops, late_ops, over_ops, pll_ops, scale_ops, switch_ops, vos_ops, writes_of}
 use Rattle.init_gen.specs.declared.setting.Codes.{Codes}
 use Rattle.init_gen.specs.declared.setting.Oscillator.{Oscillator}
 use Rattle.init_gen.specs.declared.setting.Oscillator.TheVariants as oscillator
@@ -52,9 +52,15 @@ of_pins p (Some u ∷ pins) few =
 of_section : (pins : List (Option Setup)) → length pins ≤ 144 → Each IsOp (gpio_section pins)
 of_section pins few = either (ports 0 pins == 0) [] (op.Modify reg.Ahb1enr 0 (ports 0 pins) ∷ op.Read reg.Ahb1enr ∷ gpio_ops 0 pins) tt (tt, (tt, of_pins 0 pins (omega (arith, few))))
 
-of_vos : (b : Bool) (rest : List Op) → Each IsOp rest → Each IsOp (vos_ops b rest)
-of_vos true rest h = (tt, (tt, (tt, h)))
-of_vos false rest h = h
+of_scale : (c : Codes) (rest : List Op) → Each IsOp rest → Each IsOp (scale_ops c rest)
+of_scale c rest h = either (c.scale == 1) rest (op.Modify reg.PwrCr c.vos_clear c.vos_set ∷ rest) h (tt, h)
+
+of_vos : (c : Codes) (rest : List Op) → Each IsOp rest → Each IsOp (vos_ops c rest)
+of_vos c rest h = either (c.step == 1) rest (op.Modify reg.Apb1enr 0 0x10000000 ∷ op.Read reg.Apb1enr ∷ scale_ops c rest) h (tt, (tt, of_scale c rest h))
+
+of_over : (over : Bool) (rest : List Op) → Each IsOp rest → Each IsOp (over_ops over rest)
+of_over true rest h = (tt, (tt, (tt, (tt, h))))
+of_over false rest h = h
 
 of_hse : (o : Oscillator) (rest : List Op) → Each IsOp rest → Each IsOp (hse_ops o rest)
 of_hse oscillator.Off rest h = h
@@ -71,10 +77,11 @@ of_switch src false rest e h = rw (e) (tt, (tt, h))
 
 pub are_ops : (s : Setting) → length s.pins ≤ 144 → Each IsOp (writes_of s)
 are_ops s few =
-    let c : Codes = codes_of s.facts s.clock s.wait in
+    let c : Codes = codes_of s.version s.facts s.clock s.wait in
     let pins : Each IsOp (gpio_section s.pins) = of_section s.pins few in
     let late : Each IsOp (late_ops s.prefetch c (gpio_section s.pins)) = (tt, (tt, (tt, of_switch c.src (c.src == 0) (gpio_section s.pins) refl pins))) in
-    of_vos c.vos2 (hse_ops c.oscillator (pll_ops c (late_ops s.prefetch c (gpio_section s.pins)))) (of_hse c.oscillator (pll_ops c (late_ops s.prefetch c (gpio_section s.pins))) (of_pll c c.pll (late_ops s.prefetch c (gpio_section s.pins)) refl late))
+    let over = over_ops c.over (late_ops s.prefetch c (gpio_section s.pins)) in
+    of_vos c (hse_ops c.oscillator (pll_ops c over)) (of_hse c.oscillator (pll_ops c over) (of_pll c c.pll over refl (of_over c.over (late_ops s.prefetch c (gpio_section s.pins)) late)))
 
 -- a setting has a place for each of the pins of nine ports
 numbers_few : (n first : ℕ) (t : TableParts) (ss : List Signal) (us : List PinUse) → length (map (setup_at t ss us) (numbers_from n first)) ≡ n

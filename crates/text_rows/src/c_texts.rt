@@ -18,6 +18,25 @@ int board_init(void)
 "
 }
 
+/// Where over-drive is awaited.
+fn head_with_over() -> &'static str {
+    "#include <stdint.h>
+#define REG(a) (*(volatile uint32_t *)(a))
+enum { DONE, HSE_TIMEOUT, PLL_TIMEOUT, LATENCY_TIMEOUT, SWITCH_TIMEOUT, OVER_TIMEOUT, OVER_SWITCH_TIMEOUT };
+int board_init(void)
+{
+    uint32_t polls;
+"
+}
+
+fn over() -> &'static str {
+    "    for (polls = 0u; (REG(0x40007004u) & 0x00010000u) != 0x00010000u; ) { if (++polls == 10000u) return OVER_TIMEOUT; }\n"
+}
+
+fn over_switch() -> &'static str {
+    "    for (polls = 0u; (REG(0x40007004u) & 0x00020000u) != 0x00020000u; ) { if (++polls == 10000u) return OVER_SWITCH_TIMEOUT; }\n"
+}
+
 fn write() -> &'static str {
     "    REG(0x40023C00u) = 0x00000700u;\n"
 }
@@ -49,7 +68,22 @@ fn lines(
     third: &str,
     last: &str,
 ) -> Result<Vec<u8>, Fail> {
-    let mut text = Vec::from_slice(alloc, head().as_bytes())?;
+    behind(alloc, head(), first, second, third, last)
+}
+
+fn lines_with_over(alloc: Global, first: &str, second: &str, third: &str) -> Result<Vec<u8>, Fail> {
+    behind(alloc, head_with_over(), first, second, third, end())
+}
+
+fn behind(
+    alloc: Global,
+    head: &str,
+    first: &str,
+    second: &str,
+    third: &str,
+    last: &str,
+) -> Result<Vec<u8>, Fail> {
+    let mut text = Vec::from_slice(alloc, head.as_bytes())?;
     text.extend_from_slice(first.as_bytes())?;
     text.extend_from_slice(second.as_bytes())?;
     text.extend_from_slice(third.as_bytes())?;
@@ -118,6 +152,75 @@ fn a_read_is_a_line(rt: HostRuntime) -> Result<(), Fail> {
     let printed = c_text(rt.alloc(), &[Op::Read { reg }])?;
     let text = lines(rt.alloc(), "    (void)REG(0x40022024u);\n", "", "", end())?;
     assert_eq!(rt; printed.as_slice(), text.as_slice());
+    Ok(())
+}
+
+/// The awaits of over-drive, behind a write.
+fn with_over() -> [Op; 3]
+    ensures { Each IsOp result }
+{
+    [
+        Op::Write {
+            reg: Reg::Acr,
+            value: 0x700,
+        },
+        Op::Await {
+            reg: Reg::PwrCsr,
+            mask: 0x0001_0000,
+            want: 0x0001_0000,
+            polls: 10_000,
+            name: Timeout::Over,
+        },
+        Op::Await {
+            reg: Reg::PwrCsr,
+            mask: 0x0002_0000,
+            want: 0x0002_0000,
+            polls: 10_000,
+            name: Timeout::OverSwitch,
+        },
+    ]
+}
+
+#[test]
+fn awaits_of_over_drive_are_read_again(rt: HostRuntime) -> Result<(), Fail> {
+    let text = lines_with_over(rt.alloc(), write(), over(), over_switch())?;
+    let few = text.len() < 1000;
+    assert!(rt; few);
+    let read = read_c(rt.alloc(), text.as_slice())?;
+    assert_eq!(rt; read.as_slice(), with_over().as_slice());
+    Ok(())
+}
+
+#[test]
+fn awaits_of_over_drive_have_their_third_line(rt: HostRuntime) -> Result<(), Fail> {
+    let printed = c_text(rt.alloc(), &with_over())?;
+    let text = lines_with_over(rt.alloc(), write(), over(), over_switch())?;
+    assert_eq!(rt; printed.as_slice(), text.as_slice());
+    Ok(())
+}
+
+#[test]
+fn a_name_that_the_third_line_lacks_is_a_fault_at_its_line(rt: HostRuntime) -> Result<(), Fail> {
+    let alloc = rt.alloc();
+    let text = lines(alloc, write(), wait(), over(), end())?;
+    assert_eq!(rt; fault(alloc, text.as_slice())?, 9, "OVER_TIMEOUT");
+    let text = lines(alloc, over_switch(), write(), wait(), end())?;
+    assert_eq!(rt; fault(alloc, text.as_slice())?, 7, "OVER_SWITCH_TIMEOUT");
+    Ok(())
+}
+
+#[test]
+fn the_end_is_not_due_where_no_access_awaits_over_drive(rt: HostRuntime) -> Result<(), Fail> {
+    let alloc = rt.alloc();
+    let text = lines_with_over(alloc, write(), wait(), modify())?;
+    assert_eq!(rt; fault(alloc, text.as_slice())?, 10);
+    let text = lines_with_over(alloc, "", "", "")?;
+    assert_eq!(rt; fault(alloc, text.as_slice())?, 7);
+    let text = lines_with_over(alloc, over(), write(), wait())?;
+    let few = text.len() < 1000;
+    assert!(rt; few);
+    let read = read_c(alloc, text.as_slice())?;
+    assert_eq!(rt; read.len(), 3);
     Ok(())
 }
 

@@ -86,7 +86,7 @@ fn the_first_faulty_line_is_named(rt: HostRuntime) -> Result<(), Fail> {
         ("proof 1\nbound none\nS 0 512\n", 3),
         ("proof 1\nbound none\nS 0 0 0\n", 3),
         ("proof 1\nbound none\nL 2\n", 3),
-        ("proof 1\nbound none\nL 17\n", 3),
+        ("proof 1\nbound none\nL 18\n", 3),
         ("proof 1\nbound none\nH pins\n", 3),
         ("proof 1\nbound none\nH pins 3 3\n", 3),
         ("proof 1\nbound none\nH pins 3  4\n", 3),

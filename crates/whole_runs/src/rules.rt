@@ -1,6 +1,6 @@
 //! What each rule forbids and what it lets pass, from reset. The expected answers are read off RM0090.
 use crate::runs::{cfgr_behind, told};
-use crate::settings::{bare, crystal};
+use crate::settings::{bare, crystal, over};
 use reg_machine::{Answer, Op, Rule, Stepped, Timeout};
 use reg_map::{GpioReg, Reg};
 use std::alloc::Global;
@@ -11,6 +11,8 @@ const NO: Answer = Answer {
     pll: false,
     latency: false,
     switch: false,
+    over: false,
+    over_switch: false,
 };
 
 const YES: Answer = Answer {
@@ -18,6 +20,8 @@ const YES: Answer = Answer {
     pll: true,
     latency: true,
     switch: true,
+    over: true,
+    over_switch: true,
 };
 
 const HSEON: u32 = 0x0001_0000;
@@ -31,6 +35,13 @@ const PLLON: u32 = 0x0100_0000;
 const PWREN: u32 = 0x1000_0000;
 
 const VOS: u32 = 0x0000_4000;
+
+const ODEN: u32 = 0x0001_0000;
+
+const ODSWEN: u32 = 0x0002_0000;
+
+/// VOS of a part with over-drive.
+const TWO_BITS: u32 = 0x0000_C000;
 
 const GPIOB: u32 = 0x0000_0002;
 
@@ -90,6 +101,11 @@ fn then(alloc: Global, before: &[Op], op: Op) -> Result<Stepped, Fail> {
     told(alloc, &crystal(), before, NO, op)
 }
 
+/// On a part with over-drive.
+fn over_then(alloc: Global, before: &[Op], a: Answer, op: Op) -> Result<Stepped, Fail> {
+    told(alloc, &over(), before, a, op)
+}
+
 /// Where each flag comes as soon as it may.
 fn then_prompt(alloc: Global, before: &[Op], op: Op) -> Result<Stepped, Fail> {
     told(alloc, &crystal(), before, YES, op)
@@ -105,6 +121,7 @@ fn rules_have_their_numbers(rt: HostRuntime) {
     assert_eq!(rt; Rule::HsiOffInUse.number(), 1);
     assert_eq!(rt; Rule::PllcfgrWithPllOn.number(), 7);
     assert_eq!(rt; Rule::AwaitUnlawful.number(), 18);
+    assert_eq!(rt; Rule::PwrCsrWritten.number(), 21);
 }
 
 #[test]
@@ -350,6 +367,112 @@ fn the_scale_stays_while_the_pll_is_on(rt: HostRuntime) -> Result<(), Fail> {
         Stepped::Went,
         "the same"
     );
+    Ok(())
+}
+
+/// PWR is there, and the PLL runs from HSI.
+fn with_pll() -> [Op; 3] {
+    [
+        set(Reg::Apb1enr, PWREN),
+        read(Reg::Apb1enr),
+        set(Reg::Cr, PLLON),
+    ]
+}
+
+#[test]
+fn a_part_of_version_1_has_no_over_drive(rt: HostRuntime) -> Result<(), Fail> {
+    assert_eq!(rt;
+        then_prompt(rt.alloc(), with_pll().as_slice(), set(Reg::PwrCr, ODEN))?,
+        forbidden(Rule::ScaleWithPllOnOrOtherBit)
+    );
+    Ok(())
+}
+
+#[test]
+fn a_scale_of_two_bits_is_not_0(rt: HostRuntime) -> Result<(), Fail> {
+    let on = with_pll();
+    let none = clear(Reg::PwrCr, TWO_BITS);
+    let third = write(Reg::PwrCr, VOS);
+    assert_eq!(rt;
+        over_then(rt.alloc(), &on[..2], NO, none)?,
+        forbidden(Rule::ScaleWithPllOnOrOtherBit)
+    );
+    assert_eq!(rt; over_then(rt.alloc(), &on[..2], NO, third)?, Stepped::Went);
+    assert_eq!(rt;
+        over_then(rt.alloc(), on.as_slice(), NO, third)?,
+        forbidden(Rule::ScaleWithPllOnOrOtherBit),
+        "the PLL is on"
+    );
+    Ok(())
+}
+
+#[test]
+fn over_drive_wants_the_pll_and_another_scale_than_3(rt: HostRuntime) -> Result<(), Fail> {
+    let rule = forbidden(Rule::OverOnUnfit);
+    let on = with_pll();
+    let start = set(Reg::PwrCr, ODEN);
+    assert_eq!(rt; over_then(rt.alloc(), &on[..2], NO, start)?, rule, "no PLL");
+    assert_eq!(rt;
+        over_then(rt.alloc(), on.as_slice(), NO, start)?,
+        Stepped::Went
+    );
+    let third = [on[0], on[1], write(Reg::PwrCr, VOS), on[2]];
+    assert_eq!(rt;
+        over_then(rt.alloc(), third.as_slice(), NO, start)?,
+        rule,
+        "scale 3"
+    );
+    let started = [on[0], on[1], on[2], start];
+    assert_eq!(rt;
+        over_then(rt.alloc(), started.as_slice(), NO, clear(Reg::PwrCr, ODEN))?,
+        rule,
+        "it stays"
+    );
+    Ok(())
+}
+
+#[test]
+fn the_switch_to_over_drive_wants_it_ready(rt: HostRuntime) -> Result<(), Fail> {
+    let rule = forbidden(Rule::OverSwitchUnfit);
+    let on = with_pll();
+    let started = [on[0], on[1], on[2], set(Reg::PwrCr, ODEN)];
+    let switch = set(Reg::PwrCr, ODSWEN);
+    assert_eq!(rt;
+        over_then(rt.alloc(), started.as_slice(), NO, switch)?,
+        rule
+    );
+    assert_eq!(rt;
+        over_then(rt.alloc(), started.as_slice(), YES, switch)?,
+        Stepped::Went
+    );
+    Ok(())
+}
+
+#[test]
+fn the_pll_stays_on_beside_over_drive(rt: HostRuntime) -> Result<(), Fail> {
+    let on = with_pll();
+    let off = clear(Reg::Cr, PLLON);
+    let started = [on[0], on[1], on[2], set(Reg::PwrCr, ODEN)];
+    assert_eq!(rt;
+        over_then(rt.alloc(), started.as_slice(), NO, off)?,
+        forbidden(Rule::PllOffInUseOrOtherBit)
+    );
+    assert_eq!(rt;
+        over_then(rt.alloc(), on.as_slice(), NO, off)?,
+        Stepped::Went
+    );
+    Ok(())
+}
+
+#[test]
+fn pwr_csr_is_read_alone(rt: HostRuntime) -> Result<(), Fail> {
+    let rule = forbidden(Rule::PwrCsrWritten);
+    assert_eq!(rt; first(rt.alloc(), write(Reg::PwrCsr, 0))?, rule);
+    assert_eq!(rt;
+        over_then(rt.alloc(), [].as_slice(), NO, set(Reg::PwrCsr, 1))?,
+        rule
+    );
+    assert_eq!(rt; first(rt.alloc(), read(Reg::PwrCsr))?, Stepped::Went);
     Ok(())
 }
 

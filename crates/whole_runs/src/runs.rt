@@ -22,8 +22,8 @@ pub(crate) struct Ran {
     pub legal: bool,
 }
 
-/// What is seen of the machine behind a run: RCC_CFGR, the source and the latency in effect, the nodes in hertz and the
-/// modes of some pins. Tests hold this and no
+/// What is seen of the machine behind a run: RCC_CFGR, the source, the latency and the power step in effect, the nodes in
+/// hertz and the modes of some pins. Tests hold this and no
 /// machine, since each of their early returns would have to drop it.
 #[derive(Clone, Copy, Debug, PartialEq, Eq)]
 pub(crate) struct Seen {
@@ -31,19 +31,21 @@ pub(crate) struct Seen {
     pub cfgr: u32,
     pub source: Src,
     pub latency: u8,
+    pub power: Option<u8>,
     /// SYSCLK, HCLK, PCLK1, PCLK2 and the timers of the two buses; then the PLL's input, its VCO and the 48 MHz clock, 0
     /// where the PLL is off.
     pub hertz: [u64; 9],
     pub modes: [Mode; 4],
 }
 
-fn tables(alloc: Global) -> Result<Tables, TableFault> {
-    read_tables(alloc, table().as_bytes())
+/// The table of a version.
+fn tables(alloc: Global, version: u8) -> Result<Tables, TableFault> {
+    read_tables(alloc, table(version).as_bytes())
 }
 
-/// The machine after reset, with the target of a setting.
+/// The machine after reset, with the table and the target of a setting.
 fn machine(alloc: Global, s: &Setting) -> Result<Machine, Fail> {
-    let tables = tables(alloc)?;
+    let tables = tables(alloc, s.version)?;
     let want = target(s);
     if want.facts.hse_hz < 0x1_0000_0000 {
         Ok(Machine::reset(alloc, &tables, &want)?)
@@ -199,6 +201,10 @@ fn latency(m: &Machine) -> u8 {
     m.latency()
 }
 
+fn power(m: &Machine) -> Option<u8> {
+    m.power_of()
+}
+
 fn look(m: &Machine, ran: Ran, places: [u8; 4]) -> Seen {
     let [a, b, c, d] = places;
     Seen {
@@ -206,6 +212,7 @@ fn look(m: &Machine, ran: Ran, places: [u8; 4]) -> Seen {
         cfgr: configured(m),
         source: source(m),
         latency: latency(m),
+        power: power(m),
         hertz: frequencies(m),
         modes: [mode(m, a), mode(m, b), mode(m, c), mode(m, d)],
     }
@@ -256,6 +263,8 @@ pub(crate) fn after_flags(alloc: Global, s: &Setting, ops: &[Op], a: Answer) -> 
         pll: false,
         latency: false,
         switch: false,
+        over: false,
+        over_switch: false,
     };
     let ran = run(&mut m, ops, none);
     flags_come(&mut m, a);

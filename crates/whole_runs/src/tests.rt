@@ -2,7 +2,7 @@
 ghost use Rattle.std.specs.Prelude.{◌<◌};
 
 use crate::runs::{Ran, accesses, after, after_flags, set_up};
-use crate::settings::{board, clock_pin};
+use crate::settings::{board, clock_pin, over, third_scale};
 use reg_machine::{Answer, Op, Rule, Stepped, Timeout};
 use reg_map::{GpioReg, Reg};
 use res_model::{Mode, Src};
@@ -14,6 +14,8 @@ const NO: Answer = Answer {
     pll: false,
     latency: false,
     switch: false,
+    over: false,
+    over_switch: false,
 };
 
 const YES: Answer = Answer {
@@ -21,6 +23,8 @@ const YES: Answer = Answer {
     pll: true,
     latency: true,
     switch: true,
+    over: true,
+    over_switch: true,
 };
 
 fn write(reg: Reg, value: u32) -> Op {
@@ -92,6 +96,115 @@ fn the_board_has_its_accesses(rt: HostRuntime) -> Result<(), Fail> {
         12 + 2 * 5 + 4 * 4,
         "two alternate functions and four outputs"
     );
+    Ok(())
+}
+
+/// From HSI to 180 MHz at scale 1 with over-drive, and no pin.
+fn over_accesses() -> [Op; 14] {
+    [
+        modify(Reg::Apb1enr, 0, 0x1000_0000),
+        read(Reg::Apb1enr),
+        write(Reg::Pllcfgr, 0x2400_5A10),
+        modify(Reg::Cr, 0, 0x0100_0000),
+        wait(Reg::Cr, 0x0200_0000, 0x0200_0000, 10_000, Timeout::Pll),
+        modify(Reg::PwrCr, 0, 0x0001_0000),
+        wait(Reg::PwrCsr, 0x0001_0000, 0x0001_0000, 10_000, Timeout::Over),
+        modify(Reg::PwrCr, 0, 0x0002_0000),
+        wait(
+            Reg::PwrCsr,
+            0x0002_0000,
+            0x0002_0000,
+            10_000,
+            Timeout::OverSwitch,
+        ),
+        write(Reg::Acr, 0x0000_0705),
+        wait(Reg::Acr, 0x0000_0007, 5, 1_000, Timeout::Latency),
+        modify(Reg::Cfgr, 0x0000_FCF0, 0x0000_9400),
+        modify(Reg::Cfgr, 0x0000_0003, 0x0000_0002),
+        wait(Reg::Cfgr, 0x0000_000C, 8, 100_000, Timeout::Switch),
+    ]
+}
+
+#[test]
+fn over_drive_comes_before_the_latency(rt: HostRuntime) -> Result<(), Fail> {
+    let ops = accesses(rt.alloc(), &over())?;
+    assert_eq!(rt; ops.as_slice(), over_accesses().as_slice());
+    let seen = set_up(rt.alloc(), &over(), YES, PLACES)?;
+    let last = Stepped::Went;
+    assert_eq!(rt;
+        seen.ran,
+        Ran {
+            last,
+            steps: 14,
+            legal: true
+        }
+    );
+    assert_eq!(rt; seen.power, Some(4));
+    assert_eq!(rt;
+        &seen.hertz[..4],
+        [180_000_000, 180_000_000, 45_000_000, 90_000_000].as_slice()
+    );
+    Ok(())
+}
+
+#[test]
+fn over_drive_that_never_comes_ends_the_run(rt: HostRuntime) -> Result<(), Fail> {
+    let none = Answer { over: false, ..YES };
+    let seen = set_up(rt.alloc(), &over(), none, PLACES)?;
+    let last = Stepped::TimedOut {
+        name: Timeout::Over,
+    };
+    // the six accesses before, each flag at its first poll, and the last poll
+    assert_eq!(rt;
+        seen.ran,
+        Ran {
+            last,
+            steps: 6 + 10_000,
+            legal: true
+        }
+    );
+    assert_eq!(rt; seen.source, Src::Hsi);
+    assert_eq!(rt; seen.power, Some(1));
+    Ok(())
+}
+
+#[test]
+fn a_switch_to_over_drive_that_never_comes_ends_the_run(rt: HostRuntime) -> Result<(), Fail> {
+    let none = Answer {
+        over_switch: false,
+        ..YES
+    };
+    let seen = set_up(rt.alloc(), &over(), none, PLACES)?;
+    let last = Stepped::TimedOut {
+        name: Timeout::OverSwitch,
+    };
+    assert_eq!(rt;
+        seen.ran,
+        Ran {
+            last,
+            steps: 8 + 10_000,
+            legal: true
+        }
+    );
+    assert_eq!(rt; seen.source, Src::Hsi);
+    Ok(())
+}
+
+#[test]
+fn scale_3_is_1_of_two_bits(rt: HostRuntime) -> Result<(), Fail> {
+    let ops = accesses(rt.alloc(), &third_scale())?;
+    assert_eq!(rt;
+        &ops.as_slice()[..3],
+        [
+            modify(Reg::Apb1enr, 0, 0x1000_0000),
+            read(Reg::Apb1enr),
+            modify(Reg::PwrCr, 0x0000_C000, 0x0000_4000),
+        ]
+        .as_slice()
+    );
+    let seen = set_up(rt.alloc(), &third_scale(), NO, PLACES)?;
+    assert_eq!(rt; seen.ran.legal, true);
+    assert_eq!(rt; seen.power, Some(3));
     Ok(())
 }
 
@@ -202,6 +315,18 @@ fn no_wait_state_is_too_few_for_168_mhz(rt: HostRuntime) -> Result<(), Fail> {
     let early = [ops[0], ops[1], ops[2], ops[3], ops[4], ops[7], ops[8]];
     let hasty = ran(rt.alloc(), early.as_slice(), YES)?;
     assert_eq!(rt; hasty, NOT_LEGAL);
+    Ok(())
+}
+
+/// As without the wait for ODSWRDY: at 180 MHz and scale 1 alone.
+#[test]
+fn without_over_drive_180_mhz_is_too_fast(rt: HostRuntime) -> Result<(), Fail> {
+    let ops = over_accesses();
+    let whole = after(rt.alloc(), &over(), ops.as_slice(), YES, PLACES)?;
+    assert_eq!(rt; (whole.ran.last, whole.ran.legal), FINE);
+    let early = [ops[2], ops[3], ops[4], ops[9], ops[10], ops[11], ops[12]];
+    let hasty = after(rt.alloc(), &over(), early.as_slice(), YES, PLACES)?;
+    assert_eq!(rt; (hasty.ran.last, hasty.ran.legal), NOT_LEGAL);
     Ok(())
 }
 

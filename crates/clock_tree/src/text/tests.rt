@@ -37,6 +37,28 @@ fn text_with_the_pll_off(rt: HostRuntime) -> Result<(), Fail> {
     Ok(())
 }
 
+/// Whether the text of a power step has this line.
+fn has_line(text: &[u8], line: &str) -> bool {
+    match std::str::from_utf8(text) {
+        Ok(text) => text.contains(line),
+        Err(_) => false,
+    }
+}
+
+#[test]
+fn over_drive_stands_behind_its_scale(rt: HostRuntime) -> Result<(), Fail> {
+    for (vos, line) in [
+        (2, "apb2 1 vos 2\n"),
+        (3, "apb2 1 vos 3\n"),
+        (4, "apb2 1 vos 1 over\n"),
+        (5, "apb2 1 vos 2 over\n"),
+    ] {
+        let text = tree_text(rt.alloc(), &QUIET, &ClockChoice { vos, ..RESET }, None)?;
+        assert!(&rt; has_line(text.as_slice(), line), "step {vos}");
+    }
+    Ok(())
+}
+
 #[test]
 fn text_of_fractions_shows_their_floors(rt: HostRuntime) -> Result<(), Fail> {
     let f = Facts {

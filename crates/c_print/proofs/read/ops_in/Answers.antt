@@ -5,10 +5,11 @@ use Rattle.std.proofs.lemmas.List.{length-append}
 use Rattle.res_base.specs.Lists.{Each}
 use Rattle.res_base.proofs.ListLemmas.{each_push}
 use Rattle.reg_machine.specs.declared.op.Op.{Op}
-use Rattle.c_print.specs.Text.{op_line}
+use Rattle.c_print.specs.Text.{op_line, awaits_over}
 use Rattle.c_print.specs.Reading.{FitsLine}
 use Rattle.c_print.proofs.FrontLemmas.{join}
 use Rattle.c_print.proofs.LineLemmas.{line_long}
+use Rattle.c_print.proofs.WithinLemmas.{all_named}
 use Rattle.c_print.proofs.WriteLemmas.{op_more}
 use Rattle.c_print.proofs.read.ops_in.Goals as goal
 
@@ -29,7 +30,8 @@ loop-op-preserved c =
     let same : length c.loop-op.rest.now ≡ length (op_line o ++ others) = ap length c.in-Some.ensures.is in
     let one : length c.push.new.self.items ≡ length ops + 1 = ap length pushed ∙ length-append ops (o ∷ []) in
     record {
-      fit = subst (λ (os : List Op). Each FitsLine os) (sym pushed) (each_push FitsLine ops o c.loop-op.invariant.fit c.in-Some.ensures.fits);
+      fit = subst (λ (os : List Op). Each FitsLine os) (sym pushed) (each_push FitsLine ops o c.loop-op.invariant.fit c.in-Some.ensures.fits.line);
+      named = λ w. ap awaits_over pushed ∙ all_named c.args.over ops o c.loop-op.invariant.named c.in-Some.ensures.fits w;
       is = join before (op_line o) c.loop-op.rest.now others c.args.text.now c.loop-op.invariant.is c.in-Some.ensures.is
           ∙ ap (λ (xs : List ℕ). xs ++ others) (sym (op_more ops o) ∙ ap (λ (os : List Op). concat (map op_line os)) (sym pushed));
       few = omega (arith, long, same, one, c.loop-op.invariant.few);
