@@ -1,0 +1,185 @@
+//! The lines of a trace.
+ghost use Rattle.std.specs.Prelude.{◌≡◌, ◌++◌, OnOk};
+ghost use Rattle.reg_map.specs.Registers.{IsRegister};
+ghost use Rattle.reg_machine.specs.Words.{IsOp, word_of};
+ghost use Rattle.reg_trace.specs.Lines.{OpWent, done_text, end_text, line_text, said_text, source_text, timeout_text, word_text};
+ghost use Rattle.reg_trace.specs.Trace.{register_of, went_line};
+ghost use Rattle.reg_trace.specs.Turn.{forbidden_line, step_text};
+
+use crate::hex::put_digits_8;
+use crate::turn::Turn;
+use reg_machine::{Machine, Op, Rule, Stepped, Timeout};
+use reg_map::{Reg, addr};
+use res_base::{OutOfMemory, put_dec};
+use res_model::Src;
+use std::alloc::{AllocError, Global};
+
+/// The register of an access.
+fn register_of(op: &Op) -> Reg
+    requires { IsOp op.now }
+    ensures is { result ≡ register_of op.now }
+    ensures there { IsRegister result }
+{
+    match *op {
+        Op::Write { reg, value: _ } => reg,
+        Op::Modify {
+            reg,
+            clear: _,
+            set: _,
+        } => reg,
+        Op::Read { reg } => reg,
+        Op::Await {
+            reg,
+            mask: _,
+            want: _,
+            polls: _,
+            name: _,
+        } => reg,
+    }
+}
+
+#[tactic(auto, unfolding(crate::specs::Lines::source_text))]
+fn source_text(source: Src) -> &'static [u8]
+    ensures { result.now ≡ source_text source }
+{
+    match source {
+        Src::Hsi => b" HSI ",
+        Src::Hse => b" HSE ",
+        Src::Pll => b" PLL ",
+    }
+}
+
+#[tactic(auto, unfolding(crate::specs::Lines::timeout_text, crate::specs::Lines::timeout_name))]
+fn timeout_text(name: Timeout) -> &'static [u8]
+    ensures { result.now ≡ timeout_text name }
+{
+    match name {
+        Timeout::Hse => b"timeout HSE_TIMEOUT",
+        Timeout::Pll => b"timeout PLL_TIMEOUT",
+        Timeout::Latency => b"timeout LATENCY_TIMEOUT",
+        Timeout::Switch => b"timeout SWITCH_TIMEOUT",
+        Timeout::Over => b"timeout OVER_TIMEOUT",
+        Timeout::OverSwitch => b"timeout OVER_SWITCH_TIMEOUT",
+    }
+}
+
+#[tactic(auto, unfolding(crate::specs::Lines::done_text))]
+fn done_text() -> &'static [u8]
+    ensures { result.now ≡ done_text }
+{
+    b"done"
+}
+
+#[tactic(auto, unfolding(crate::specs::Lines::end_text))]
+fn end_text(legal: bool) -> &'static [u8]
+    ensures { result.now ≡ end_text legal }
+{
+    if legal { b" legal\n" } else { b" illegal\n" }
+}
+
+/// Appends a word behind a space and `0x`.
+#[tactic(auto, unfolding(crate::specs::Lines::word_text))]
+fn put_word(out: &mut Vec<u8>, n: u32) -> Result<(), AllocError>
+    ensures { OnOk result (out.new.items ≡ out.old.items ++ word_text n) }
+{
+    out.extend_from_slice(b" 0x")?;
+    put_digits_8(out, n)
+}
+
+/// Appends what is said of an access that was done.
+fn put_went(
+    alloc: Global,
+    out: &mut Vec<u8>,
+    number: u32,
+    at: u32,
+    word: u32,
+    source: Src,
+    latency: u8,
+) -> Result<(), OutOfMemory>
+    ensures { OnOk result (out.new.items ≡ out.old.items ++ said_text (OpWent number at word source latency)) }
+{
+    put_dec(alloc, out, u64::from(number))?;
+    put_word(out, at)?;
+    put_word(out, word)?;
+    out.extend_from_slice(source_text(source))?;
+    put_dec(alloc, out, u64::from(latency))
+}
+
+/// Appends the line of an access that was done.
+fn put_went_line(
+    alloc: Global,
+    out: &mut Vec<u8>,
+    number: u32,
+    op: &Op,
+    m: &Machine,
+    fine: bool,
+) -> Result<(), OutOfMemory>
+    requires { IsOp op.now }
+    ensures { OnOk result (out.new.items ≡ out.old.items ++ line_text (went_line number fine op.now m.now.state)) }
+{
+    let reg = register_of(op);
+    put_went(
+        alloc,
+        out,
+        number,
+        addr(reg),
+        m.word(reg),
+        m.source(),
+        m.latency(),
+    )?;
+    out.extend_from_slice(end_text(fine))?;
+    Ok(())
+}
+
+/// Appends the last line of a run whose await timed out.
+fn put_timeout(out: &mut Vec<u8>, name: Timeout, fine: bool) -> Result<(), OutOfMemory>
+    ensures { OnOk result (out.new.items ≡ out.old.items ++ (timeout_text name ++ end_text fine)) }
+{
+    out.extend_from_slice(timeout_text(name))?;
+    out.extend_from_slice(end_text(fine))?;
+    Ok(())
+}
+
+#[tactic(auto, unfolding(crate::specs::Lines::forbidden_text))]
+fn put_forbidden(
+    alloc: Global,
+    out: &mut Vec<u8>,
+    rule: Rule,
+    fine: bool,
+) -> Result<(), OutOfMemory>
+    ensures { OnOk result (out.new.items ≡ out.old.items ++ line_text (forbidden_line rule fine)) }
+{
+    out.extend_from_slice(b"forbidden ")?;
+    put_dec(alloc, out, u64::from(rule.number()))?;
+    out.extend_from_slice(end_text(fine))?;
+    Ok(())
+}
+
+/// Appends the line of a step, if it has one.
+pub(crate) fn put_step(
+    alloc: Global,
+    out: &mut Vec<u8>,
+    number: u32,
+    op: &Op,
+    m: &Machine,
+    turn: Turn,
+) -> Result<(), OutOfMemory>
+    requires { IsOp op.now }
+    ensures { OnOk result (out.new.items ≡ out.old.items ++ step_text number turn.fine op.now m.now.state turn.stepped) }
+{
+    match turn.stepped {
+        Stepped::Went => put_went_line(alloc, out, number, op, m, turn.fine),
+        Stepped::Waiting => Ok(()),
+        Stepped::TimedOut { name } => put_timeout(out, name, turn.fine),
+        Stepped::Forbidden { rule } => put_forbidden(alloc, out, rule, turn.fine),
+    }
+}
+
+/// Appends the last line of a run that is done.
+pub(crate) fn put_done(out: &mut Vec<u8>, fine: bool) -> Result<(), OutOfMemory>
+    ensures { OnOk result (out.new.items ≡ out.old.items ++ (done_text ++ end_text fine)) }
+{
+    out.extend_from_slice(done_text())?;
+    out.extend_from_slice(end_text(fine))?;
+    Ok(())
+}

@@ -1,0 +1,91 @@
+//! A run from reset, traced.
+ghost use Rattle.std.specs.Prelude.{◌≡◌, ◌<◌, ◌^◌, [], ◌∷◌, drop, get_or, length};
+ghost use Rattle.res_base.specs.Lists.{Each};
+ghost use Rattle.reg_machine.specs.Run.{silent};
+ghost use Rattle.reg_machine.specs.Words.{IsOp};
+ghost use Rattle.reg_trace.specs.Trace.{Gives, trace_of};
+
+use crate::fault::TraceFault;
+use crate::flags::silent;
+use crate::lines::{put_done, put_step};
+use crate::reading::most;
+use crate::turn::{fine_after, goes_on, number_after, take_turn, todo_after};
+use reg_machine::{Answer, Machine, Op, Target};
+use res_model::Tables;
+use std::alloc::Global;
+
+/// The next answer. Past the end of the list no flag comes.
+fn next_answer(answers: &[Answer]) -> Answer
+    ensures { result ≡ get_or answers.now 0 silent }
+{
+    if answers.is_empty() {
+        silent()
+    } else {
+        answers[0]
+    }
+}
+
+/// The answers behind the next one.
+fn later_answers(answers: &[Answer]) -> &[Answer]
+    ensures { result.now ≡ drop 1 answers.now }
+{
+    if answers.is_empty() {
+        answers
+    } else {
+        &answers[1..]
+    }
+}
+
+/// The next access of a list that has one.
+fn next_op(ops: &[Op]) -> Op
+    requires some { 0 < length ops.now }
+    requires there { Each IsOp ops.now }
+    ensures is { ops.now ≡ result ∷ drop 1 ops.now }
+    ensures there { IsOp result }
+    ensures others { Each IsOp (drop 1 ops.now) }
+{
+    ops[0]
+}
+
+/// What a run from reset shows, for a list of flag answers: a line for each access that is done, with its number, its
+/// register's address and word, the source and the latency in effect, and whether each state since the line before is legal;
+/// and the line of how the run ended.
+///
+/// A run of more than 1,000,000 steps is refused. Each poll of an await is a step.
+pub fn trace(
+    alloc: Global,
+    t: &Tables,
+    want: &Target,
+    ops: &[Op],
+    answers: &[Answer],
+) -> Result<Vec<u8>, TraceFault>
+    requires hse { want.now.facts.hse_hz < 2 ^ 32 }
+    requires ops { Each IsOp ops.now }
+    ensures { Gives (λ text. text.items) result (trace_of t.now want.now ops.now answers.now) }
+{
+    let mut machine = Machine::reset(alloc, t, want)?;
+    let mut out = Vec::new(alloc);
+    let mut fine = machine.legal();
+    let mut todo = ops;
+    let mut coming = answers;
+    let mut number = 1u32;
+    let mut left = most();
+    'steps: while !todo.is_empty() {
+        if left == 0 {
+            return Err(TraceFault::Long);
+        }
+        let op = next_op(todo);
+        let step = take_turn(&mut machine, &op, next_answer(coming), fine);
+        put_step(alloc, &mut out, number, &op, &machine, step)?;
+        if !goes_on(step.stepped) {
+            return Ok(out);
+        }
+        number = number_after(step.stepped, number);
+        fine = fine_after(step.stepped, step.fine);
+        todo = todo_after(step.stepped, todo);
+        coming = later_answers(coming);
+        left -= 1;
+    }
+    put_done(&mut out, fine)?;
+    Ok(out)
+}

@@ -1,0 +1,2 @@
+pub mod HomeLaws
+pub mod NameLaws
