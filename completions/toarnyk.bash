@@ -14,7 +14,7 @@ _toarnyk_signals() {
 }
 
 _toarnyk() {
-    local IFS=$' \t\n' commands='pins tree resolve check case can i2s dma ioc board explain code lint view install help'
+    local IFS=$' \t\n' commands='pins tree resolve check case can i2s dma ioc board explain trace code lint view install help'
     local word=${COMP_WORDS[COMP_CWORD]} before=${COMP_WORDS[COMP_CWORD - 1]} first=1 options='' names=0
     COMPREPLY=()
     [ "${COMP_WORDS[1]}" != --quiet ] || first=2
@@ -33,6 +33,7 @@ _toarnyk() {
         ioc) options="--vdd --need --hclk --pclk1 --pclk2 --free --workers" ;;
         board) options="--vdd --need --hclk --pclk1 --pclk2 --free" ;;
         explain) options="--vdd --need --hclk --pclk1 --pclk2 --free" ;;
+        trace) options="--vdd" ;;
         code) options="--vdd --need --hclk --pclk1 --pclk2 --free --workers -o" ;;
         lint) options="--need --off" ;;
         view) options="--vdd --need --hclk --pclk1 --pclk2 --free --workers" ;;
@@ -49,6 +50,7 @@ _toarnyk() {
         ioc) names=2 ;;
         board) names=2 ;;
         explain) names=2 ;;
+        trace) names=4 ;;
         code) names=2 ;;
         lint) names=2 ;;
         view) names=2 ;;
@@ -97,6 +99,10 @@ _toarnyk() {
         board:2) _toarnyk_files ioc ;;
         explain:1) _toarnyk_files json ;;
         explain:2) _toarnyk_files ioc ;;
+        trace:1) _toarnyk_files json ;;
+        trace:2) _toarnyk_files ioc ;;
+        trace:3) _toarnyk_files '*' ;;
+        trace:4) _toarnyk_files '*' ;;
         code:1) _toarnyk_files json ;;
         code:2) _toarnyk_files ioc ;;
         lint:1) _toarnyk_files json ;;

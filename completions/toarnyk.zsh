@@ -9,7 +9,7 @@ _toarnyk_signals() {
 _toarnyk() {
     local -a commands options described
     local first=2 names=0
-    commands=(pins tree resolve check case can i2s dma ioc board explain code lint view install help)
+    commands=(pins tree resolve check case can i2s dma ioc board explain trace code lint view install help)
     described=(
         'pins:where each signal sits, and what must move when one more is needed'
         'tree:what the projects clock tree runs at, and the first limit that it breaks'
@@ -22,6 +22,7 @@ _toarnyk() {
         'ioc:the projects text with the choice of `resolve` as its homes'
         'board:as `resolve`, for a board that is too wide to be ranked in one number'
         'explain:what the choice changes; or why nothing fits, and which one thing to give up'
+        'trace:what a C text does to the registers, step by step, and where the chip is not in a legal state'
         'code:the C text of `resolve` alone, and on success alone'
         'lint:what the program takes as it stands and a person may not have meant'
         'view:one HTML page with the package, the clock tree and the C text'
@@ -44,6 +45,7 @@ _toarnyk() {
         ioc) options=(--vdd --need --hclk --pclk1 --pclk2 --free --workers) ;;
         board) options=(--vdd --need --hclk --pclk1 --pclk2 --free) ;;
         explain) options=(--vdd --need --hclk --pclk1 --pclk2 --free) ;;
+        trace) options=(--vdd) ;;
         code) options=(--vdd --need --hclk --pclk1 --pclk2 --free --workers -o) ;;
         lint) options=(--need --off) ;;
         view) options=(--vdd --need --hclk --pclk1 --pclk2 --free --workers) ;;
@@ -60,6 +62,7 @@ _toarnyk() {
         ioc) names=2 ;;
         board) names=2 ;;
         explain) names=2 ;;
+        trace) names=4 ;;
         code) names=2 ;;
         lint) names=2 ;;
         view) names=2 ;;
@@ -108,6 +111,10 @@ _toarnyk() {
         board:2) _files -g '*.ioc(-.)' ;;
         explain:1) _files -g '*.json(-.)' ;;
         explain:2) _files -g '*.ioc(-.)' ;;
+        trace:1) _files -g '*.json(-.)' ;;
+        trace:2) _files -g '*.ioc(-.)' ;;
+        trace:3) _files ;;
+        trace:4) _files ;;
         code:1) _files -g '*.json(-.)' ;;
         code:2) _files -g '*.ioc(-.)' ;;
         lint:1) _files -g '*.json(-.)' ;;

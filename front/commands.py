@@ -128,6 +128,13 @@ COMMANDS = {
             "choice fits, with its cost; the status is 1.",
             "explain examples/sample.json examples/no-room.ioc --need I2C1_SCL --free pins", True),
         Command(
+            "trace", ("TABLE", "PROJECT", "C", "ANSWERS"), ("--vdd",),
+            "what a C text does to the registers, step by step, and where the chip is not in a legal state",
+            "Runs the C function of a report, also one that was changed by hand, on the machine of the registers from reset. Prints a "
+            "line for each access that is done: its number, address and word, the clock source and the wait states in effect, and "
+            "`legal` or `illegal`; then how it ended. ANSWERS tells which flags come at each step.",
+            "trace examples/sample.json examples/too-fast.ioc examples/no-wait-states.c examples/all-flags.txt", True),
+        Command(
             "code", ("TABLE", "PROJECT"), SHARED + ("--workers", "-o"),
             "the C text of `resolve` alone, and on success alone",
             "Where `resolve` refuses, nothing goes to standard output or into the file, its line goes to standard "
@@ -182,6 +189,9 @@ STATUSES = (
     Status(10, "the proof is not accepted", "`proof: line N` or `proof: node N`"),
     Status(12, "the project cannot be written back", "`ioc: number` or `ioc: line N`"),
     Status(13, "a DMA request that the table does not have, or that is asked for twice", "`dma: request N`"),
+    Status(14, "the C text has no reading", "`c: line N`, the first line that is not of a form due there"),
+    Status(15, "the flag answers are not of their form, or are too many", "`answers: line N`"),
+    Status(16, "a traced run has more than 1,000,000 steps", "`trace: long`"),
     Status(20, "the system did not hand over the words", "nothing"),
 )
 

@@ -166,6 +166,46 @@ def of_writing(words, line):
                         ("shorten that line in the project",))
 
 
+# ---- 14, 15 and 16 ----
+
+
+def line_of(file, line):
+    """The place of the line that is told, with its text; None where the file cannot be read."""
+    try:
+        with open(file, "rb") as stream:
+            lines = stream.read().split(b"\n")
+    except OSError:
+        return None
+    number = int(line.rpartition(" ")[2])
+    text = lines[number - 1] if number <= len(lines) else b""
+    return blocks.Place(file, number, text, 0, len(text))
+
+
+def of_c_text(words, line):
+    """The C text's first line that is not of the form due there."""
+    file = words[3] if len(words) > 3 else ""
+    place = line_of(file, line)
+    if place is None:
+        return None
+    return blocks.Block("the C text is not of the form that `toarnyk resolve` prints", place, (),
+                        ("it begins with `#include <stdint.h>`, and each access is a line of one of four forms",))
+
+
+def of_answers(words, line):
+    """The line of flag answers that is not of their form, or with which there are too many."""
+    file = words[4] if len(words) > 4 else ""
+    place = line_of(file, line)
+    if place is None:
+        return None
+    return blocks.Block("the line is not `N FLAGS`, or there are more than 1,000,000 answers with it", place, (),
+                        ("FLAGS is `-` or some of the letters h, p, l, s, o and w, in this order, as in `100 hpls`",))
+
+
+def of_long_run(words, line):
+    return blocks.Block("the run has more than 1,000,000 steps", None, ("each poll of an await is a step",),
+                        ("let the flags come earlier, or lower the counts of polls",))
+
+
 # ---- 1 ----
 
 

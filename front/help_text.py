@@ -67,7 +67,7 @@ def of_command(command):
         import lint
 
         lines += ["", "Kinds of notes:", *rows([(kind.name, kind.text) for kind in lint.KINDS])]
-    if command.name in ("pins", "tree", "resolve", "check", "case", "code"):
+    if command.name in ("pins", "tree", "resolve", "check", "case", "trace", "code"):
         lines += ["", "Statuses:", *status_rows()]
     lines += ["", f"Example: toarnyk {command.example}"]
     return "\n".join(lines) + "\n"

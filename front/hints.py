@@ -60,7 +60,8 @@ def block_for(status, words, said):
     if status == 1:
         return faults.nothing_fits(words, said or "")
     told = {3: faults.unread, 4: faults.too_long, 5: faults.of_table, 6: faults.of_project, 7: faults.too_wide,
-            10: faults.of_proof, 12: faults.of_writing, 13: faults.of_request}.get(status)
+            10: faults.of_proof, 12: faults.of_writing, 13: faults.of_request, 14: faults.of_c_text,
+            15: faults.of_answers, 16: faults.of_long_run}.get(status)
     block = told(words, line) if told and line else None
     return block or general(status)
 

@@ -1,7 +1,7 @@
 -- What a command reads, and what it may do.
 use Rattle.std.specs.Prelude.{ℕ, List, [], ◌∷◌, Bool, true, false}
 use Rattle.cmd_words.specs.declared.command.Command.{Command}
-use Rattle.cmd_words.specs.declared.command.Command.TheVariants.{Pins, Tree, Resolve, Check, Case, Can, I2s, Dma, Ioc, Board, Explain}
+use Rattle.cmd_words.specs.declared.command.Command.TheVariants.{Pins, Tree, Resolve, Check, Case, Can, I2s, Dma, Ioc, Board, Explain, Trace}
 
 -- the inputs that a command reads, in their order
 abbrev pub inputs_of : Command → List (List ℕ)
@@ -16,6 +16,7 @@ inputs_of (Dma tables requests workers) = tables ∷ []
 inputs_of (Ioc tables project opts workers) = tables ∷ project ∷ []
 inputs_of (Board tables project opts) = tables ∷ project ∷ []
 inputs_of (Explain tables project opts) = tables ∷ project ∷ []
+inputs_of (Trace tables project c answers opts) = tables ∷ project ∷ c ∷ answers ∷ []
 
 -- the commands that may start threads
 abbrev pub may_wait : Command → Bool
@@ -30,6 +31,7 @@ may_wait (Dma tables requests workers) = true
 may_wait (Ioc tables project opts workers) = true
 may_wait (Board tables project opts) = false
 may_wait (Explain tables project opts) = false
+may_wait (Trace tables project c answers opts) = false
 
 -- the workers that a command asks for
 abbrev pub workers_asked : Command → ℕ
@@ -44,3 +46,4 @@ workers_asked (Dma tables requests workers) = workers
 workers_asked (Ioc tables project opts workers) = workers
 workers_asked (Board tables project opts) = 1
 workers_asked (Explain tables project opts) = 1
+workers_asked (Trace tables project c answers opts) = 1

@@ -11,9 +11,10 @@
 --     ioc T P [OPTIONS] [--workers N]
 --     board T P [OPTIONS]
 --     explain T P [OPTIONS]
+--     trace T P C ANSWERS [--vdd MV]
 --
 -- OPTIONS are --vdd MV, --need SIGNAL, --hclk HZ, --pclk1 HZ, --pclk2 HZ and --free pins|clock|all|none. Options stand
--- after the names, in any order, and each at most once but --need. T, P, PROOF and SIGNAL are any words;
+-- after the names, in any order, and each at most once but --need. T, P, PROOF, C, ANSWERS and SIGNAL are any words;
 -- of a REQUEST there are 1 to 16, and none begins with two hyphens.
 -- RATE is in bits per second, SAMPLE_RATE in hertz, POINT and TOLERANCE are in per mille of a bit.
 use Rattle.std.specs.Prelude.{ℕ, ◌≤◌, IfSome, ◌+◌, ◌==◌, Bool, true, false, List, [], ◌∷◌, ◌++◌, length, take, drop, eqb, find, codes, nat_le, nat_lt, if◌then◌else◌, Option, Some, None, option_and_then, option_map, is_some, unwrap_or, Result, Ok, Err}
@@ -23,7 +24,7 @@ use Rattle.res_model.specs.Numbers.{number_of, number_up_to}
 use Rattle.res_model.specs.Steps.{◌>>=◌}
 use Rattle.res_model.specs.declared.opts.Opts.{Opts}
 use Rattle.cmd_words.specs.declared.command.Command.{Command}
-use Rattle.cmd_words.specs.declared.command.Command.TheVariants.{Pins, Tree, Resolve, Check, Case, Can, I2s, Dma, Ioc, Board, Explain}
+use Rattle.cmd_words.specs.declared.command.Command.TheVariants.{Pins, Tree, Resolve, Check, Case, Can, I2s, Dma, Ioc, Board, Explain, Trace}
 use Rattle.res_model.specs.declared.opts.Free.{Free as FreeSet}
 use Rattle.res_model.specs.declared.opts.Free.TheVariants as free
 use Rattle.cmd_words.specs.declared.fault.UsageFault.{UsageFault}
@@ -224,6 +225,13 @@ check_of (t ∷ p ∷ proof ∷ words) = do
   Ok (Check t p proof (opts_of g))
 check_of words = too_early words
 
+-- trace T P C ANSWERS [--vdd MV]
+abbrev pub trace_of : List (List ℕ) → Result Command UsageFault
+trace_of (t ∷ p ∷ c ∷ answers ∷ words) = do
+  g ← options tree_takes 6 words
+  Ok (Trace t p c answers (opts_of g))
+trace_of words = too_early words
+
 -- case K [--workers N]
 abbrev pub case_of : List (List ℕ) → Result Command UsageFault
 case_of (k ∷ words) = do
@@ -300,7 +308,8 @@ command_of (command ∷ words) =
     else (if bytes_eq command (codes "ioc") then ioc_of words
     else (if bytes_eq command (codes "board") then board_of words
     else (if bytes_eq command (codes "explain") then explain_of words
-    else Err (Word 1)))))))))))
+    else (if bytes_eq command (codes "trace") then trace_of words
+    else Err (Word 1))))))))))))
 
 -- The numbers that the grammar allows: what options gave, and what a command has.
 abbrev pub IsHertz : Option ℕ → Type 0
@@ -337,5 +346,6 @@ IsWithinLimits (Can t p rate point tolerance) = IsBitTiming rate point tolerance
 IsWithinLimits (Ioc t p opts workers) = HasLimits opts × IsWorkers workers
 IsWithinLimits (Board t p opts) = HasLimits opts
 IsWithinLimits (Explain t p opts) = HasLimits opts
+IsWithinLimits (Trace t p c answers opts) = HasLimits opts
 IsWithinLimits (I2s t p rate) = (8000 ≤ rate) × (rate ≤ 192000)
 IsWithinLimits (Dma t requests workers) = ((1 ≤ length requests) × (length requests ≤ 16)) × IsWorkers workers

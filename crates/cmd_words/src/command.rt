@@ -81,6 +81,14 @@ pub enum Command {
         project: Text,
         opts: Opts,
     },
+    /// A C text run on the machine, for flag answers.
+    Trace {
+        tables: Text,
+        project: Text,
+        c: Text,
+        answers: Text,
+        opts: Opts,
+    },
 }
 
 /// The name of a table.
@@ -116,6 +124,24 @@ fn three_names(
     ]?)
 }
 
+/// The names of a table, a project, a C text and flag answers.
+fn four_names(
+    alloc: Global,
+    tables: &Text,
+    project: &Text,
+    c: &Text,
+    answers: &Text,
+) -> Result<Vec<Text>, OutOfMemory>
+    ensures { IfOk result (λ names. names.items ≡ tables.now ∷ project.now ∷ c.now ∷ answers.now ∷ []) }
+{
+    Ok(vec![in alloc;
+        Text::copy(alloc, tables.as_str())?,
+        Text::copy(alloc, project.as_str())?,
+        Text::copy(alloc, c.as_str())?,
+        Text::copy(alloc, answers.as_str())?,
+    ]?)
+}
+
 impl Command {
     /// The names of the inputs that it reads, in their order.
     pub fn inputs(&self, alloc: Global) -> Result<Vec<Text>, OutOfMemory>
@@ -130,6 +156,13 @@ impl Command {
                 proof,
                 ..
             } => three_names(alloc, tables, project, proof),
+            Command::Trace {
+                tables,
+                project,
+                c,
+                answers,
+                ..
+            } => four_names(alloc, tables, project, c, answers),
             Command::Pins {
                 tables,
                 project,

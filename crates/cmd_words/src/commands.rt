@@ -1,7 +1,7 @@
 //! The words of each command.
 ghost use Rattle.std.specs.Prelude.{◌≡◌, map, string_bytes, IfOk};
 ghost use Rattle.cmd_words.specs.UsageFaults.{Gives};
-ghost use Rattle.cmd_words.specs.Words.{check_takes, case_takes, check_of, case_of, can_of, i2s_of, command_of, IsWithinLimits};
+ghost use Rattle.cmd_words.specs.Words.{check_takes, case_takes, tree_takes, check_of, case_of, can_of, i2s_of, trace_of, command_of, IsWithinLimits};
 
 use crate::command::Command;
 use crate::fault::UsageFault;
@@ -16,6 +16,8 @@ use res_base::Text;
 use std::alloc::Global;
 
 const CASE: [Flag; 1] = [Flag::Workers];
+
+const TRACE: [Flag; 1] = [Flag::Vdd];
 
 /// Commands without options.
 const NONE: [Flag; 0] = [];
@@ -34,6 +36,25 @@ fn read_check(alloc: Global, words: &[String]) -> Result<Command, UsageFault>
         tables: Text::copy(alloc, tables.as_str())?,
         project: Text::copy(alloc, project.as_str())?,
         proof: Text::copy(alloc, proof.as_str())?,
+        opts: opts_of(given),
+    })
+}
+
+fn read_trace(alloc: Global, words: &[String]) -> Result<Command, UsageFault>
+    ensures gives { Gives (λ c. c) result (trace_of (map string_bytes words.now)) }
+    ensures limits { IfOk result IsWithinLimits }
+{
+    let [tables, project, c, answers, words @ ..] = words else {
+        return Err(UsageFault::Word {
+            word: words.len() + 2,
+        });
+    };
+    let given = read_options(alloc, &TRACE, words, 6)?;
+    Ok(Command::Trace {
+        tables: Text::copy(alloc, tables.as_str())?,
+        project: Text::copy(alloc, project.as_str())?,
+        c: Text::copy(alloc, c.as_str())?,
+        answers: Text::copy(alloc, answers.as_str())?,
         opts: opts_of(given),
     })
 }
@@ -127,6 +148,7 @@ pub fn read_words(alloc: Global, words: &[String]) -> Result<Command, UsageFault
         "ioc" => read_ioc(alloc, words),
         "board" => read_board(alloc, words),
         "explain" => read_explain(alloc, words),
+        "trace" => read_trace(alloc, words),
         _ => Err(UsageFault::Word { word: 1 }),
     }
 }

@@ -3,7 +3,7 @@ use Rattle.std.proofs.Common.{◌≡◌, ℕ, List, Bool, Option, ap, subst, sym
 use Rattle.answers.specs.Said.{answered}
 use Rattle.answers.specs.declared.answer.Answer.{Answer}
 use Rattle.answers.specs.declared.answer.Status.{Status}
-use Rattle.answers.specs.declared.answer.Status.TheVariants.{Done, NoChoice, TooWide, TableRefused, ProofRefused, WriteBackRefused, RequestRefused}
+use Rattle.answers.specs.declared.answer.Status.TheVariants.{Done, NoChoice, TooWide, TableRefused, ProofRefused, WriteBackRefused, RequestRefused, CTextRefused, AnswersRefused, TraceTooLong}
 use Rattle.board_fit.specs.Board.{OfBoard}
 use Rattle.board_fit.specs.Board as board
 use Rattle.call_io.specs.Gathered.{IsOfBytes}
@@ -28,6 +28,11 @@ use Rattle.res_model.specs.declared.project.Home.{Home}
 use Rattle.res_model.specs.declared.project.Project.{Project}
 use Rattle.solver.specs.Owed.{OfCase, OfNodes, OfPins, OfProblem, OfProof, OfWhole}
 use Rattle.solver.specs.Owed as owed
+use Rattle.reg_machine.specs.declared.op.Answer as flags
+use Rattle.reg_machine.specs.declared.op.Op.{Op}
+use Rattle.reg_machine.specs.declared.state.Target.{Target}
+use Rattle.trace_answer.specs.Due.{OfAnswers, OfRun, OfTrace}
+use Rattle.trace_answer.specs.Due as trace
 
 done : IsOfBytes Done
 done = record { of_inputs = record { own = record { no_write_fault = λ e. absurd cc; no_memory = λ e. absurd cc }; no_read_fault = λ e. absurd cc; no_length = λ e. absurd cc }; no_usage = λ e. absurd cc }
@@ -49,6 +54,15 @@ write_back_refused = record { of_inputs = record { own = record { no_write_fault
 
 request_refused : IsOfBytes RequestRefused
 request_refused = record { of_inputs = record { own = record { no_write_fault = λ e. absurd cc; no_memory = λ e. absurd cc }; no_read_fault = λ e. absurd cc; no_length = λ e. absurd cc }; no_usage = λ e. absurd cc }
+
+c_text_refused : IsOfBytes CTextRefused
+c_text_refused = record { of_inputs = record { own = record { no_write_fault = λ e. absurd cc; no_memory = λ e. absurd cc }; no_read_fault = λ e. absurd cc; no_length = λ e. absurd cc }; no_usage = λ e. absurd cc }
+
+answers_refused : IsOfBytes AnswersRefused
+answers_refused = record { of_inputs = record { own = record { no_write_fault = λ e. absurd cc; no_memory = λ e. absurd cc }; no_read_fault = λ e. absurd cc; no_length = λ e. absurd cc }; no_usage = λ e. absurd cc }
+
+trace_too_long : IsOfBytes TraceTooLong
+trace_too_long = record { of_inputs = record { own = record { no_write_fault = λ e. absurd cc; no_memory = λ e. absurd cc }; no_read_fault = λ e. absurd cc; no_length = λ e. absurd cc }; no_usage = λ e. absurd cc }
 
 -- an answer has the status that it was given
 pub at : (a : Answer) (status : Status) (text : List ℕ) → a ≡ answered status text → IsOfBytes status → IsOfBytes a.status
@@ -114,6 +128,18 @@ of_want requests a (dma.refuted text no_legal shown e) = at a NoChoice _ e no_ch
 
 pub of_request : (a : Answer) (text : List ℕ) → a ≡ answered RequestRefused text → IsOfBytes a.status
 of_request a text e = at a RequestRefused text e request_refused
+
+of_run : (t : TableParts) (want : Target) (ops : List Op) (answers : List flags.Answer) (a : Answer) → OfRun t want ops answers a → IsOfBytes a.status
+of_run t want ops answers a (trace.shown text is e) = at a Done text e done
+of_run t want ops answers a (trace.long is says) = at a TraceTooLong _ says trace_too_long
+
+of_answers : (t : TableParts) (want : Target) (ops : List Op) (text : List ℕ) (a : Answer) → OfAnswers t want ops text a → IsOfBytes a.status
+of_answers t want ops text a (trace.unsaid line is says) = at a AnswersRefused _ says answers_refused
+of_answers t want ops text a (trace.said answers is due) = of_run t want ops answers a due
+
+pub of_trace : (t : TableParts) (want : Target) (file text : List ℕ) (a : Answer) → OfTrace t want file text a → IsOfBytes a.status
+of_trace t want file text a (trace.unread line is says) = at a CTextRefused _ says c_text_refused
+of_trace t want file text a (trace.read ops is due) = of_answers t want ops text a due
 
 pub of_table : (a : Answer) (text : List ℕ) → a ≡ answered TableRefused text → IsOfBytes a.status
 of_table a text e = at a TableRefused text e table_refused

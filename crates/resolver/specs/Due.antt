@@ -11,9 +11,10 @@ use Rattle.can_timing.specs.declared.request.Request.{Request}
 use Rattle.case_rules.specs.CaseProblem.{case_problem}
 use Rattle.cmd_words.specs.Asked.{inputs_of, may_wait}
 use Rattle.cmd_words.specs.declared.command.Command.{Command}
-use Rattle.cmd_words.specs.declared.command.Command.TheVariants.{Pins, Tree, Resolve, Check, Case, Can, I2s, Dma, Ioc, Board, Explain}
+use Rattle.cmd_words.specs.declared.command.Command.TheVariants.{Pins, Tree, Resolve, Check, Case, Can, I2s, Dma, Ioc, Board, Explain, Trace}
 use Rattle.cmd_words.specs.declared.fault.UsageFault.{UsageFault}
 use Rattle.explain.specs.Due.{OfExplain}
+use Rattle.home_target.specs.Homes.{home_target}
 use Rattle.i2s_pll.specs.Due.{OfI2s}
 use Rattle.ioc_answer.specs.Owed.{OfIoc}
 use Rattle.problem.specs.Problem.{problem_of}
@@ -27,6 +28,7 @@ use Rattle.resolver.specs.HomeTree.{fixed, home_choice, home_nodes, home_text, n
 use Rattle.resolver.specs.Refusals.{words_refusal}
 use Rattle.resolver.specs.Requests.{OfRequestsIn}
 use Rattle.solver.specs.Owed.{OfCase, OfPins, OfProblem, OfProof, OfWhole}
+use Rattle.trace_answer.specs.Due.{OfTrace}
 
 -- the bytes of the input at this place, from 0
 abbrev pub input_at : List (List ℕ) → ℕ → List ℕ
@@ -80,6 +82,10 @@ CanTask rate point tolerance t p a = can.IsDue (bus t p rate point tolerance) a
 abbrev pub I2sTask : ℕ → Task
 I2sTask rate t p a = OfI2s t (facts_of t p no_options) (home_choice p.clock) rate a
 
+-- `trace`: what a C text shows on the machine, for flag answers, where the homes are wanted
+abbrev pub TraceTask : Opts → List ℕ → List ℕ → Task
+TraceTask opts c answers t p a = OfTrace t (home_target t p opts) c answers a
+
 -- what a command owes for the bytes of its inputs. `case` has none: its problem is that of the number
 abbrev pub OfBytes : Command → List (List ℕ) → Answer → Type 0
 OfBytes (Pins tables project opts) files a = OverProject opts false (PinsTask opts) files a
@@ -92,6 +98,7 @@ OfBytes (I2s tables project rate) files a = OverProject no_options true (I2sTask
 OfBytes (Ioc tables project opts workers) files a = OverProject opts true (IocTask opts (input_at files 1)) files a
 OfBytes (Explain tables project opts) files a = OverProject opts true (ExplainTask opts (input_at files 1)) files a
 OfBytes (Board tables project opts) files a = OverProject opts true (BoardTask opts) files a
+OfBytes (Trace tables project c answers opts) files a = OverProject (fixed opts) true (TraceTask (fixed opts) (input_at files 2) (input_at files 3)) files a
 OfBytes (Dma tables requests workers) files a = OfRequestsIn requests (input_at files 0) a
 
 -- each input is read whole before any is looked at

@@ -10,7 +10,7 @@ ghost use Rattle.res_model.specs.declared.opts.Free.TheVariants.{Pins};
 ghost use Rattle.resolver.specs.Opening.{AreInputs};
 
 use crate::home_tree::{hertz_fit, home_text};
-use crate::on_homes::{can, i2s};
+use crate::on_homes::{can, i2s, trace};
 use answers::{Answer, Status};
 use cmd_words::Command;
 use project_reading::{Opened, open_project};
@@ -223,6 +223,7 @@ pub(crate) fn of_bytes(
         Command::I2s { rate, .. } => i2s(alloc, files, rate),
         Command::Board { opts, .. } => board(alloc, files, &opts),
         Command::Explain { opts, .. } => explain(alloc, files, &opts),
+        Command::Trace { opts, .. } => trace(alloc, files, opts),
         Command::Resolve { .. }
         | Command::Case { .. }
         | Command::Dma { .. }

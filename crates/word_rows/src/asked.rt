@@ -26,6 +26,7 @@ fn asked(alloc: Global, line: &str) -> Result<(&'static str, u32), Fail> {
         Command::Ioc { .. } => "ioc",
         Command::Board { .. } => "board",
         Command::Explain { .. } => "explain",
+        Command::Trace { .. } => "trace",
     };
     Ok((name, command.workers()))
 }
@@ -49,6 +50,7 @@ fn each_command_is_read(rt: HostRuntime) -> Result<(), Fail> {
         ("ioc T C --need I2C1_SCL --workers 4", "ioc", 4),
         ("board T E --hclk 168000000 --vdd 1800", "board", 1),
         ("explain T A --free pins", "explain", 1),
+        ("trace T A C ANSWERS --vdd 1800", "trace", 1),
     ];
     for (line, name, workers) in rows {
         let (is_name, is_workers) = asked(rt.alloc(), line)?;
