@@ -20,7 +20,8 @@ pub fn home_target(
     opts: &Opts,
 ) -> Result<Target, OutOfMemory>
     requires { Each (IsPlaced t.now) p.now.signals }
-    ensures { IfOk result (λ want. want ≡ home_target t.now p.now opts.now) }
+    ensures target { IfOk result (λ want. want ≡ home_target t.now p.now opts.now) }
+    ensures hse { IfOk result (λ want. want.facts.hse_hz ≡ p.now.hse_hz) }
 {
     let pins = home_modes(alloc, t, p.signals.as_slice())?;
     Ok(Target {

@@ -1,4 +1,5 @@
-pub mod CutLemmas
+pub mod CleanLemmas
 pub mod NumberLemmas
 pub mod ReadLemmas
+pub mod RunLemmas
 pub mod TurnLemmas

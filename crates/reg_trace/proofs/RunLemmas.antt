@@ -5,19 +5,25 @@ use Rattle.std.specs.List.{concat}
 use Rattle.std.proofs.lemmas.List.{append-nil}
 use Rattle.res_model.specs.declared.table.TableParts.{TableParts}
 use Rattle.reg_machine.specs.Legal.{is_legal}
-use Rattle.reg_machine.specs.Reset.{reset_of}
+use Rattle.reg_machine.specs.Reset.{View, reset_of}
 use Rattle.reg_machine.specs.Run.{Config, Running, Done, TimedOut, Forbidden, after, config_at, next, silent}
 use Rattle.reg_machine.specs.Step.{step_of}
+use Rattle.reg_machine.specs.Tree.{src_of}
+use Rattle.reg_machine.specs.Words.{IsOp, word_of}
+use Rattle.res_base.specs.Lists.{Each}
+use Rattle.res_model.specs.declared.clock.Src.{Src}
 use Rattle.reg_machine.specs.declared.op.Answer.{Answer}
 use Rattle.reg_machine.specs.declared.op.Op.{Op}
 use Rattle.reg_machine.specs.declared.op.Stepped.{Stepped}
 use Rattle.reg_machine.specs.declared.op.Stepped.TheVariants as stepped
 use Rattle.reg_machine.specs.declared.state.State.{State}
 use Rattle.reg_machine.specs.declared.state.Target.{Target}
-use Rattle.reg_trace.specs.Lines.{RunDone, TraceLine, done_text, end_text, line_text, text_of}
+use Rattle.reg_trace.specs.Lines.{OpWent, RunDone, TraceLine, done_text, end_text, line_text, text_of}
 use Rattle.reg_trace.specs.Reading.{most}
-use Rattle.reg_trace.specs.Trace.{Moment, fine_after, goes_on, is_fine, is_over, lines_from, moment, moments, number_after, step_lines, trace_lines, trace_of}
-use Rattle.reg_trace.specs.Turn.{step_text, todo_after}
+use Rattle.reg_trace.specs.Trace.{Moment, fine_after, goes_on, is_fine, is_over, lines_from, moment, moments, number_after, register_of, step_lines, trace_lines, trace_of}
+use Rattle.reg_trace.specs.Turn.{IsSeen, IsTurn, seen_text, todo_after}
+use Rattle.reg_trace.specs.declared.lines.Seen.{Seen}
+use Rattle.reg_trace.specs.declared.turn.Turn.{Turn}
 use Rattle.reg_trace.specs.declared.fault.TraceFault.{TraceFault}
 use Rattle.reg_trace.specs.declared.fault.TraceFault.TheVariants as fault
 
@@ -87,11 +93,16 @@ text_none : text_of [] ≡ []
 unfolding text_of
 text_none = refl
 
-step_is : (number : ℕ) (fine : Bool) (op : Op) (s : State) (x : Stepped) → text_of (step_lines number fine op s x) ≡ step_text number fine op s x
-step_is number fine op s stepped.Went = text_one _
-step_is number fine op s stepped.Waiting = text_none
-step_is number fine op s (stepped.TimedOut name) = text_one _
-step_is number fine op s (stepped.Forbidden rule) = text_one _
+pub seen_is : (number : ℕ) (fine : Bool) (op : Op) (s : State) (seen : Seen) (x : Stepped) → IsSeen op s seen → text_of (step_lines number fine op s x) ≡ seen_text number fine seen x
+seen_is number fine op s seen stepped.Went h =
+    text_one _
+    ∙ ap (λ (n : ℕ). line_text (record { said = OpWent number n (word_of s (register_of op)) (src_of s.source) s.latency; legal = fine })) (sym h.at)
+    ∙ ap (λ (n : ℕ). line_text (record { said = OpWent number seen.at n (src_of s.source) s.latency; legal = fine })) (sym h.word)
+    ∙ ap (λ (c : Src). line_text (record { said = OpWent number seen.at seen.word c s.latency; legal = fine })) (sym h.source)
+    ∙ ap (λ (n : ℕ). line_text (record { said = OpWent number seen.at seen.word seen.source n; legal = fine })) (sym h.latency)
+seen_is number fine op s seen stepped.Waiting h = text_none
+seen_is number fine op s seen (stepped.TimedOut name) h = text_one _
+seen_is number fine op s seen (stepped.Forbidden rule) h = text_one _
 
 -- ---- where the code stands
 
@@ -121,10 +132,12 @@ module _ (legal : State → Bool) (over : Bool) (whole out : List ℕ) (number :
             ∙ ap (λ (t : List ℕ). out ++ t) (text_one (record { said = RunDone; legal = fine })) ∙ sym is;
       }
 
-  pub long : (left : ℕ) (op : Op) (todo ops : List Op) (coming : List Answer) (s : State) → Stands legal over whole out number left fine todo coming s → left ≡ 0 → todo ≡ op ∷ ops → over ≡ false
-  long left op todo ops coming s h e is =
-      let k = subst (λ (os : List Op). Stands legal over whole out number left fine os coming s) is h in
-      k.run ∙ ap (λ (n : ℕ). is_over (config_at n coming (Running (op ∷ ops) s))) e
+  is_going : (n : ℕ) (todo : List Op) (coming : List Answer) (s : State) → 0 < length todo → n ≡ 0 → is_over (config_at n coming (Running todo s)) ≡ false
+  is_going n [] coming s l e = absurd (omega (arith, l))
+  is_going n (op ∷ todo) coming s l e = ap (λ (k : ℕ). is_over (config_at k coming (Running (op ∷ todo) s))) e
+
+  pub long : (left : ℕ) (todo : List Op) (coming : List Answer) (s : State) → Stands legal over whole out number left fine todo coming s → left ≡ 0 → 0 < length todo → over ≡ false
+  long left todo coming s h e l = h.run ∙ is_going left todo coming s l e
 
   -- what the first step adds, and what is left
   module _ (op : Op) (ops : List Op) (coming : List Answer) (s : State) (n : ℕ) where
@@ -138,7 +151,7 @@ module _ (legal : State → Bool) (over : Bool) (whole out : List ℕ) (number :
     later = after op ops (step_of s op (get_or coming 0 silent))
 
     goes : goes_on m.stepped ≡ true → Stands legal over whole out number (suc n) fine (op ∷ ops) coming s
-        → Stands legal over whole (out ++ step_text number now op m.state m.stepped) (number_after m.stepped number) n (fine_after m.stepped now) (todo_after m.stepped (op ∷ ops)) (drop 1 coming) m.state
+        → Stands legal over whole (out ++ text_of (step_lines number now op m.state m.stepped)) (number_after m.stepped number) n (fine_after m.stepped now) (todo_after m.stepped (op ∷ ops)) (drop 1 coming) m.state
     goes e h =
         let on : later ≡ Running (todo_after m.stepped (op ∷ ops)) m.state = on_after op ops m.stepped m.state e in
         let rest = lines_from legal (number_after m.stepped number) (fine_after m.stepped now) (moments n (drop 1 coming) (Running (todo_after m.stepped (op ∷ ops)) m.state)) in
@@ -148,8 +161,7 @@ module _ (legal : State → Bool) (over : Bool) (whole out : List ℕ) (number :
               ∙ ap (λ (ms : List Moment). out ++ text_of (lines_from legal number fine ms)) (front_moments n coming op ops s ∙ ap (λ (c : Config). m ∷ moments n (drop 1 coming) c) on)
               ∙ ap (λ (b : Bool). out ++ text_of (step_lines number now op m.state m.stepped ++ cond b rest [])) e
               ∙ ap (λ (t : List ℕ). out ++ t) (text_append (step_lines number now op m.state m.stepped) rest)
-              ∙ ap (λ (t : List ℕ). out ++ (t ++ text_of rest)) (step_is number now op m.state m.stepped)
-              ∙ sym (append_assoc out (step_text number now op m.state m.stepped) (text_of rest));
+              ∙ sym (append_assoc out (text_of (step_lines number now op m.state m.stepped)) (text_of rest));
           run = h.run ∙ ap is_over (front_config n coming op ops s ∙ ap (config_at n (drop 1 coming)) on);
           small = omega (arith, h.small, at_most_one m.stepped);
         }
@@ -160,7 +172,7 @@ module _ (legal : State → Bool) (over : Bool) (whole out : List ℕ) (number :
         at_most_one (stepped.TimedOut name) = omega arith
         at_most_one (stepped.Forbidden rule) = omega arith
 
-    ends : goes_on m.stepped ≡ false → Stands legal over whole out number (suc n) fine (op ∷ ops) coming s → Told over whole (out ++ step_text number now op m.state m.stepped)
+    ends : goes_on m.stepped ≡ false → Stands legal over whole out number (suc n) fine (op ∷ ops) coming s → Told over whole (out ++ text_of (step_lines number now op m.state m.stepped))
     ends e h =
         let rest = lines_from legal (number_after m.stepped number) (fine_after m.stepped now) (moments n (drop 1 coming) later) in
         record {
@@ -169,31 +181,71 @@ module _ (legal : State → Bool) (over : Bool) (whole out : List ℕ) (number :
               h.text
               ∙ ap (λ (ms : List Moment). out ++ text_of (lines_from legal number fine ms)) (front_moments n coming op ops s)
               ∙ ap (λ (b : Bool). out ++ text_of (step_lines number now op m.state m.stepped ++ cond b rest [])) e
-              ∙ ap (λ (ls : List TraceLine). out ++ text_of ls) (append-nil (step_lines number now op m.state m.stepped))
-              ∙ ap (λ (t : List ℕ). out ++ t) (step_is number now op m.state m.stepped);
+              ∙ ap (λ (ls : List TraceLine). out ++ text_of ls) (append-nil (step_lines number now op m.state m.stepped));
         }
 
     pub goes_by : (left : ℕ) (todo : List Op) (x : Stepped) (b : Bool) (t : State) (more : List ℕ) → left ≡ suc n → todo ≡ op ∷ ops → x ≡ m.stepped → t ≡ m.state → b ≡ now
-        → more ≡ out ++ step_text number b op t x → goes_on x ≡ true → Stands legal over whole out number left fine todo coming s
+        → more ≡ out ++ text_of (step_lines number b op t x) → goes_on x ≡ true → Stands legal over whole out number left fine todo coming s
         → Stands legal over whole more (number_after x number) n (fine_after x b) (todo_after x todo) (drop 1 coming) t
     goes_by left todo x b t more el et ex es eb em e h =
         let k = subst (λ (l : ℕ). Stands legal over whole out number l fine (op ∷ ops) coming s) el (subst (λ (os : List Op). Stands legal over whole out number left fine os coming s) et h) in
         let g = goes (sym (ap goes_on ex) ∙ e) k in
-        let at_state = subst (λ (u : State). Stands legal over whole (out ++ step_text number now op u m.stepped) (number_after m.stepped number) n (fine_after m.stepped now) (todo_after m.stepped (op ∷ ops)) (drop 1 coming) u) (sym es) g in
-        let at_fine = subst (λ (f : Bool). Stands legal over whole (out ++ step_text number f op t m.stepped) (number_after m.stepped number) n (fine_after m.stepped f) (todo_after m.stepped (op ∷ ops)) (drop 1 coming) t) (sym eb) at_state in
-        let at_step = subst (λ (y : Stepped). Stands legal over whole (out ++ step_text number b op t y) (number_after y number) n (fine_after y b) (todo_after y (op ∷ ops)) (drop 1 coming) t) (sym ex) at_fine in
-        let at_todo = subst (λ (os : List Op). Stands legal over whole (out ++ step_text number b op t x) (number_after x number) n (fine_after x b) (todo_after x os) (drop 1 coming) t) (sym et) at_step in
+        let at_state = subst (λ (u : State). Stands legal over whole (out ++ text_of (step_lines number now op u m.stepped)) (number_after m.stepped number) n (fine_after m.stepped now) (todo_after m.stepped (op ∷ ops)) (drop 1 coming) u) (sym es) g in
+        let at_fine = subst (λ (f : Bool). Stands legal over whole (out ++ text_of (step_lines number f op t m.stepped)) (number_after m.stepped number) n (fine_after m.stepped f) (todo_after m.stepped (op ∷ ops)) (drop 1 coming) t) (sym eb) at_state in
+        let at_step = subst (λ (y : Stepped). Stands legal over whole (out ++ text_of (step_lines number b op t y)) (number_after y number) n (fine_after y b) (todo_after y (op ∷ ops)) (drop 1 coming) t) (sym ex) at_fine in
+        let at_todo = subst (λ (os : List Op). Stands legal over whole (out ++ text_of (step_lines number b op t x)) (number_after x number) n (fine_after x b) (todo_after x os) (drop 1 coming) t) (sym et) at_step in
         subst (λ (o : List ℕ). Stands legal over whole o (number_after x number) n (fine_after x b) (todo_after x todo) (drop 1 coming) t) (sym em) at_todo
 
     pub ends_by : (left : ℕ) (todo : List Op) (x : Stepped) (b : Bool) (t : State) (more : List ℕ) → left ≡ suc n → todo ≡ op ∷ ops → x ≡ m.stepped → t ≡ m.state → b ≡ now
-        → more ≡ out ++ step_text number b op t x → goes_on x ≡ false → Stands legal over whole out number left fine todo coming s → Told over whole more
+        → more ≡ out ++ text_of (step_lines number b op t x) → goes_on x ≡ false → Stands legal over whole out number left fine todo coming s → Told over whole more
     ends_by left todo x b t more el et ex es eb em e h =
         let k = subst (λ (l : ℕ). Stands legal over whole out number l fine (op ∷ ops) coming s) el (subst (λ (os : List Op). Stands legal over whole out number left fine os coming s) et h) in
         let g = ends (sym (ap goes_on ex) ∙ e) k in
-        let at_state = subst (λ (u : State). Told over whole (out ++ step_text number now op u m.stepped)) (sym es) g in
-        let at_fine = subst (λ (f : Bool). Told over whole (out ++ step_text number f op t m.stepped)) (sym eb) at_state in
-        let at_step = subst (λ (y : Stepped). Told over whole (out ++ step_text number b op t y)) (sym ex) at_fine in
+        let at_state = subst (λ (u : State). Told over whole (out ++ text_of (step_lines number now op u m.stepped))) (sym es) g in
+        let at_fine = subst (λ (f : Bool). Told over whole (out ++ text_of (step_lines number f op t m.stepped))) (sym eb) at_state in
+        let at_step = subst (λ (y : Stepped). Told over whole (out ++ text_of (step_lines number b op t y))) (sym ex) at_fine in
         subst (Told over whole) (sym em) at_step
+
+-- the same where the values have names of their own
+pub moved : (legal : State → Bool) (over : Bool) (whole out : List ℕ) (number left : ℕ) (fine : Bool) (todo : List Op) (coming : List Answer) (s : State) (number1 : ℕ) (fine1 : Bool) (todo1 : List Op) (coming1 : List Answer)
+    → Stands legal over whole out number left fine todo coming s → number1 ≡ number → fine1 ≡ fine → todo1 ≡ todo → coming1 ≡ coming → Stands legal over whole out number1 left fine1 todo1 coming1 s
+moved legal over whole out number left fine todo coming s number1 fine1 todo1 coming1 h en ef et ec =
+    subst (λ (n : ℕ). Stands legal over whole out n left fine1 todo1 coming1 s) (sym en)
+    (subst (λ (b : Bool). Stands legal over whole out number left b todo1 coming1 s) (sym ef)
+    (subst (λ (os : List Op). Stands legal over whole out number left fine os coming1 s) (sym et)
+    (subst (λ (cs : List Answer). Stands legal over whole out number left fine todo cs s) (sym ec) h)))
+
+pub ops_after : (x : Stepped) (todo : List Op) → Each IsOp todo → Each IsOp (drop 1 todo) → Each IsOp (todo_after x todo)
+ops_after stepped.Went todo h k = k
+ops_after stepped.Waiting todo h k = h
+ops_after (stepped.TimedOut name) todo h k = h
+ops_after (stepped.Forbidden rule) todo h k = h
+
+pub first_op : (ops : List Op) (o : Op) → 0 < length ops → o ≡ get_or ops 0 o → ops ≡ o ∷ drop 1 ops
+first_op [] o l e = absurd (omega (arith, l))
+first_op (p ∷ ops) o l e = ap (λ (q : Op). q ∷ ops) (sym e)
+
+pub first_is_op : (ops : List Op) (o : Op) → 0 < length ops → o ≡ get_or ops 0 o → Each IsOp ops → IsOp o × Each IsOp (drop 1 ops)
+first_is_op [] o l e h = absurd (omega (arith, l))
+first_is_op (p ∷ ops) o l e h = (subst IsOp (sym e) h.0, h.1)
+
+-- what a turn did, for the answer that is due and the table and the target that stay
+pub record Turned (legal : State → Bool) (m : Moment) (fine : Bool) (turn : Turn) (s : State) : Type 0 where
+  pub stepped : turn.stepped ≡ m.stepped
+  pub state : s ≡ m.state
+  pub fine_is : turn.fine ≡ (fine && is_fine legal m)
+
+pub turned : (t : TableParts) (want : Target) (before after : View) (op : Op) (a b : Answer) (fine : Bool) (turn : Turn) → IsTurn before op a fine after turn → a ≡ b → before.table ≡ t → before.want ≡ want
+    → Turned (is_legal t want) (moment b op before.state) fine turn after.state
+turned t want before after op a b fine turn h e et ew =
+    let k = subst (λ (x : Answer). IsTurn before op x fine after turn) e h in
+    record {
+      stepped = k.stepped;
+      state = k.state;
+      fine_is =
+          k.fine_is ∙ ap (λ (x : TableParts). fine && is_fine (is_legal x before.want) (moment b op before.state)) et
+          ∙ ap (λ (w : Target). fine && is_fine (is_legal t w) (moment b op before.state)) ew;
+    }
 
 -- ---- from reset, and what is answered
 

@@ -1,3 +1,4 @@
+pub mod Clean
 pub mod Lines
 pub mod Reading
 pub mod Trace

@@ -1,15 +1,20 @@
 -- Internal: one step of a run that is traced.
 use Rattle.std.specs.Prelude.{◌≡◌, ℕ, List, [], ◌∷◌, drop, Bool, ◌&&◌}
+use Rattle.reg_map.specs.Registers.{address}
 use Rattle.reg_machine.specs.Legal.{is_legal}
 use Rattle.reg_machine.specs.Reset.{View}
+use Rattle.reg_machine.specs.Tree.{src_of}
+use Rattle.reg_machine.specs.Words.{word_of}
 use Rattle.reg_machine.specs.declared.op.Answer.{Answer}
 use Rattle.reg_machine.specs.declared.op.Op.{Op}
 use Rattle.reg_machine.specs.declared.op.Rule.{Rule}
 use Rattle.reg_machine.specs.declared.op.Stepped.{Stepped}
 use Rattle.reg_machine.specs.declared.op.Stepped.TheVariants as stepped
+use Rattle.reg_machine.specs.declared.op.Timeout.{Timeout}
 use Rattle.reg_machine.specs.declared.state.State.{State}
-use Rattle.reg_trace.specs.Lines.{RunForbidden, RunTimedOut, TraceLine, line_text}
-use Rattle.reg_trace.specs.Trace.{is_fine, moment, went_line}
+use Rattle.reg_trace.specs.Lines.{OpWent, RunForbidden, RunTimedOut, TraceLine, line_text}
+use Rattle.reg_trace.specs.Trace.{is_fine, moment, register_of}
+use Rattle.reg_trace.specs.declared.lines.Seen.{Seen}
 use Rattle.reg_trace.specs.declared.turn.Turn.{Turn}
 
 -- a machine took a step, where the states since the last line so far are fine or not
@@ -23,12 +28,25 @@ pub record IsTurn (before : View) (op : Op) (a : Answer) (fine : Bool) (after : 
 abbrev pub forbidden_line : Rule → Bool → TraceLine
 forbidden_line rule fine = record { said = RunForbidden rule; legal = fine }
 
+-- what is to be said of an access in a state
+pub record IsSeen (op : Op) (s : State) (seen : Seen) : Type 0 where
+  pub at : seen.at ≡ address (register_of op)
+  pub word : seen.word ≡ word_of s (register_of op)
+  pub source : seen.source ≡ src_of s.source
+  pub latency : seen.latency ≡ s.latency
+
+abbrev pub seen_line : ℕ → Bool → Seen → TraceLine
+seen_line number fine seen = record { said = OpWent number seen.at seen.word seen.source seen.latency; legal = fine }
+
+abbrev pub timeout_line : Timeout → Bool → TraceLine
+timeout_line name fine = record { said = RunTimedOut name; legal = fine }
+
 -- the text of a step's line, if it has one
-abbrev pub step_text : ℕ → Bool → Op → State → Stepped → List ℕ
-step_text number fine op s stepped.Went = line_text (went_line number fine op s)
-step_text number fine op s stepped.Waiting = []
-step_text number fine op s (stepped.TimedOut name) = line_text (record { said = RunTimedOut name; legal = fine })
-step_text number fine op s (stepped.Forbidden rule) = line_text (forbidden_line rule fine)
+abbrev pub seen_text : ℕ → Bool → Seen → Stepped → List ℕ
+seen_text number fine seen stepped.Went = line_text (seen_line number fine seen)
+seen_text number fine seen stepped.Waiting = []
+seen_text number fine seen (stepped.TimedOut name) = line_text (timeout_line name fine)
+seen_text number fine seen (stepped.Forbidden rule) = line_text (forbidden_line rule fine)
 
 -- the accesses that are left behind a step of the first
 abbrev pub todo_after : Stepped → List Op → List Op

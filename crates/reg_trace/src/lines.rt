@@ -1,10 +1,10 @@
 //! The lines of a trace.
 ghost use Rattle.std.specs.Prelude.{◌≡◌, ◌++◌, OnOk};
 ghost use Rattle.reg_map.specs.Registers.{IsRegister};
-ghost use Rattle.reg_machine.specs.Words.{IsOp, word_of};
+ghost use Rattle.reg_machine.specs.Words.{IsOp};
 ghost use Rattle.reg_trace.specs.Lines.{OpWent, done_text, end_text, line_text, said_text, source_text, timeout_text, word_text};
-ghost use Rattle.reg_trace.specs.Trace.{register_of, went_line};
-ghost use Rattle.reg_trace.specs.Turn.{forbidden_line, step_text};
+ghost use Rattle.reg_trace.specs.Trace.{register_of};
+ghost use Rattle.reg_trace.specs.Turn.{IsSeen, forbidden_line, seen_line, seen_text};
 
 use crate::hex::put_digits_8;
 use crate::turn::Turn;
@@ -105,27 +105,47 @@ fn put_went(
     put_dec(alloc, out, u64::from(latency))
 }
 
+/// What a line says of an access's register, and of the clock in effect.
+#[derive(Clone, Copy, Debug)]
+pub(crate) struct Seen {
+    pub at: u32,
+    pub word: u32,
+    pub source: Src,
+    pub latency: u8,
+}
+
+/// What is to be said of an access in this state.
+pub(crate) fn seen_of(m: &Machine, op: &Op) -> Seen
+    requires { IsOp op.now }
+    ensures { IsSeen op.now m.now.state result }
+{
+    let reg = register_of(op);
+    Seen {
+        at: addr(reg),
+        word: m.word(reg),
+        source: m.source(),
+        latency: m.latency(),
+    }
+}
+
 /// Appends the line of an access that was done.
 fn put_went_line(
     alloc: Global,
     out: &mut Vec<u8>,
     number: u32,
-    op: &Op,
-    m: &Machine,
+    seen: Seen,
     fine: bool,
 ) -> Result<(), OutOfMemory>
-    requires { IsOp op.now }
-    ensures { OnOk result (out.new.items ≡ out.old.items ++ line_text (went_line number fine op.now m.now.state)) }
+    ensures { OnOk result (out.new.items ≡ out.old.items ++ line_text (seen_line number fine seen)) }
 {
-    let reg = register_of(op);
     put_went(
         alloc,
         out,
         number,
-        addr(reg),
-        m.word(reg),
-        m.source(),
-        m.latency(),
+        seen.at,
+        seen.word,
+        seen.source,
+        seen.latency,
     )?;
     out.extend_from_slice(end_text(fine))?;
     Ok(())
@@ -160,15 +180,13 @@ pub(crate) fn put_step(
     alloc: Global,
     out: &mut Vec<u8>,
     number: u32,
-    op: &Op,
-    m: &Machine,
+    seen: Seen,
     turn: Turn,
 ) -> Result<(), OutOfMemory>
-    requires { IsOp op.now }
-    ensures { OnOk result (out.new.items ≡ out.old.items ++ step_text number turn.fine op.now m.now.state turn.stepped) }
+    ensures { OnOk result (out.new.items ≡ out.old.items ++ seen_text number turn.fine seen turn.stepped) }
 {
     match turn.stepped {
-        Stepped::Went => put_went_line(alloc, out, number, op, m, turn.fine),
+        Stepped::Went => put_went_line(alloc, out, number, seen, turn.fine),
         Stepped::Waiting => Ok(()),
         Stepped::TimedOut { name } => put_timeout(out, name, turn.fine),
         Stepped::Forbidden { rule } => put_forbidden(alloc, out, rule, turn.fine),

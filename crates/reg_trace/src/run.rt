@@ -7,7 +7,7 @@ ghost use Rattle.reg_trace.specs.Trace.{Gives, trace_of};
 
 use crate::fault::TraceFault;
 use crate::flags::silent;
-use crate::lines::{put_done, put_step};
+use crate::lines::{put_done, put_step, seen_of};
 use crate::reading::most;
 use crate::turn::{fine_after, goes_on, number_after, take_turn, todo_after};
 use reg_machine::{Answer, Machine, Op, Target};
@@ -76,7 +76,8 @@ pub fn trace(
         }
         let op = next_op(todo);
         let step = take_turn(&mut machine, &op, next_answer(coming), fine);
-        put_step(alloc, &mut out, number, &op, &machine, step)?;
+        let seen = seen_of(&machine, &op);
+        put_step(alloc, &mut out, number, seen, step)?;
         if !goes_on(step.stepped) {
             return Ok(out);
         }

@@ -22,8 +22,8 @@ pub data OfRun (t : TableParts) (want : Target) (ops : List Op) (answers : List 
 
 -- for accesses and the text of answers: or the line at which the text is refused
 pub data OfAnswers (t : TableParts) (want : Target) (ops : List Op) (text : List ℕ) (a : Answer) : Type 0 where
-  unread : (line : ℕ) → answers_of text ≡ Err (answer_fault.Line line) → Says a AnswersRefused (codes "answers: line " ++ decimal line) → OfAnswers t want ops text a
-  read : (answers : List op.Answer) → answers_of text ≡ Ok answers → OfRun t want ops answers a → OfAnswers t want ops text a
+  unsaid : (line : ℕ) → answers_of text ≡ Err (answer_fault.Line line) → Says a AnswersRefused (codes "answers: line " ++ decimal line) → OfAnswers t want ops text a
+  said : (answers : List op.Answer) → answers_of text ≡ Ok answers → OfRun t want ops answers a → OfAnswers t want ops text a
 
 -- for a file and the text of answers: or the line of the file at which its C text is refused
 pub data OfTrace (t : TableParts) (want : Target) (file text : List ℕ) (a : Answer) : Type 0 where
