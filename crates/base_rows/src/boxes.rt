@@ -1,9 +1,9 @@
+//! Boxes of one variable, by their paths.
 ghost use Rattle.std.specs.Prelude.{◌≡◌, IfOk, [], ◌∷◌};
 ghost use Rattle.choice_rank.specs.declared.variable.Costs.TheVariants.{HomeFirst};
 
-use super::*;
-use crate::halves::{is_single, keep_lower, keep_upper, low, split_at};
-use choice_rank::{Costs, ShapeFault};
+use box_split::{BoxBuf, is_path, is_single, keep_lower, keep_upper, low, of_path, split_at};
+use choice_rank::{Costs, Shape, VarShape};
 use std::alloc::Global;
 use std::test::Fail;
 

@@ -1,4 +1,5 @@
-use crate::{Items, Text, parse_dec, put_dec, put_line};
+//! Lists, texts and numbers.
+use res_base::{Items, Text, parse_dec, put_dec, put_line};
 use std::test::Fail;
 
 #[test]

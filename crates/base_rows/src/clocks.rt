@@ -1,4 +1,5 @@
-use crate::{ClockChoice, Facts, Src, tree_text};
+//! The text of a clock choice.
+use clock_tree::{ClockChoice, Facts, Src, tree_text};
 use std::test::Fail;
 
 const QUIET: Facts = Facts {

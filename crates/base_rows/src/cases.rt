@@ -1,4 +1,5 @@
-use crate::make_case;
+//! The texts of a made case.
+use big_case::make_case;
 use std::test::Fail;
 
 #[test]

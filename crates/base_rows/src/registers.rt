@@ -1,4 +1,5 @@
-use crate::{Field, GpioReg, Reg, addr, field_get, field_set, reg_at};
+//! Addresses and fields.
+use reg_map::{Field, GpioReg, Reg, addr, field_get, field_set, reg_at};
 use std::test::Fail;
 
 /// RM0090: the PLL's M is bits 5:0 and its Q bits 27:24 of RCC_PLLCFGR; GPIOD begins at 0x40020C00.

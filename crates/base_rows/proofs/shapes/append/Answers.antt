@@ -2,7 +2,7 @@ use Rattle.std.proofs.Common.{sym, subst, ◌<◌, ◌≤◌, arith}
 use Rattle.res_base.proofs.ListLemmas.{each_push}
 use Rattle.choice_rank.specs.declared.variable.VarShape.{VarShape}
 use Rattle.choice_rank.specs.Choices.{HasPositions, HasSmallSizes}
-use Rattle.choice_rank.proofs.shape.tests.append.Goals as goal
+use Rattle.base_rows.proofs.shapes.append.Goals as goal
 
 pub loop-preserved : goal.loop-preserved
 loop-preserved c = record {

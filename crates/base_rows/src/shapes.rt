@@ -1,8 +1,8 @@
+//! The widest shape, and a choice by its rank.
 ghost use Rattle.std.specs.Prelude.{◌+◌, ◌≤◌, ◌<◌, OnOk, vec_len};
 ghost use Rattle.choice_rank.specs.Choices.{HasPositions, HasSmallSizes};
 
-use super::*;
-use crate::variable::Costs;
+use choice_rank::{Costs, Shape, ShapeFault, VarShape};
 use std::alloc::AllocError;
 use std::test::Fail;
 

@@ -1,6 +1,6 @@
 use Rattle.std.proofs.Common.{◌≤◌, ◌+◌, vec_len}
 use Rattle.choice_rank.specs.Choices.{HasPositions, HasSmallSizes}
-use Rattle.choice_rank.proofs.shape.tests.append.Given as goal
+use Rattle.base_rows.proofs.shapes.append.Given as goal
 
 abbrev pub invariant-loop : goal.invariant-loop
 invariant-loop l = record {
