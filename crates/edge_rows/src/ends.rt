@@ -1,6 +1,6 @@
 //! Inputs that fail, and a sink that does.
-use crate::{Gathered, gather, write_answer};
 use answers::{Status, says};
+use call_io::{Gathered, gather, write_answer};
 use res_base::{Items, OutOfMemory, Text};
 use res_io::{MemFile, MemInputs, MemSink};
 use std::alloc::Global;

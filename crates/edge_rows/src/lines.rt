@@ -1,5 +1,5 @@
 //! A line of each kind.
-use crate::{Status, counts, names, says};
+use answers::{Status, counts, names, says};
 use std::test::Fail;
 
 #[test]

@@ -1,5 +1,9 @@
-use crate::*;
+//! Inputs, sinks, and the faults that they count.
 use res_base::{Items, Text};
+use res_io::{
+    Failed, FileInputs, Gate, MemFile, MemInputs, MemSink, NoGate, OutSink, ReadFault, Sink,
+    SureInputs, SureSink, read_all, write_all,
+};
 use std::alloc::Global;
 use std::fs;
 use std::test::Fail;
