@@ -6,7 +6,7 @@ ghost use Rattle.best_word.specs.Handles.{best_view, judge_of, IsSeatOf};
 ghost use Rattle.best_word.specs.Tests.{free_meaning, free_lawful, two_variables};
 ghost use Rattle.best_word.specs.Word.{kept_more};
 
-use crate::{BestSeat, BestWord};
+use best_word::{BestSeat, BestWord};
 use box_split::{BoxBuf, is_single};
 use choice_rank::{Costs, Shape, VarShape};
 use res_base::OutOfMemory;

@@ -1,14 +1,15 @@
+//! What one worker closes, and for which cause.
 ghost use Rattle.std.specs.Prelude.{◌≡◌, IfOk, [], ◌∷◌};
 ghost use Rattle.choice_rank.specs.declared.variable.Costs.TheVariants.{HomeFirst};
 ghost use Rattle.choice_rank.specs.Choices.{IsShape};
 ghost use Rattle.search_api.proofs.ShapeLemmas.{shape_prop};
 ghost use Rattle.serial_search.specs.Tests.{tiny_meaning, tiny_lawful};
 
-use crate::search;
 use box_split::{BoxBuf, is_single};
-use choice_rank::{Costs, Shape, ShapeFault, VarShape};
+use choice_rank::{Costs, Shape, VarShape};
 use res_base::OutOfMemory;
 use search_api::{Cause, Closed, Judge, Reason, Verdict};
+use serial_search::search;
 use std::alloc::Global;
 use std::test::Fail;
 

@@ -1,6 +1,8 @@
+//! The signals that a largest assignment leaves out.
 ghost use Rattle.std.specs.Prelude.{◌≡◌, length};
 
-use super::*;
+use pin_match::Matcher;
+use res_base::VarSet;
 use std::test::Fail;
 
 fn set_of(members: &[u8]) -> VarSet {

@@ -1,5 +1,5 @@
 //! One deque with a thief.
-use crate::Owner;
+use path_deque::Owner;
 use std::test::Fail;
 
 #[test]

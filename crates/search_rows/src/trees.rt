@@ -1,7 +1,7 @@
+//! A tree that is accepted, and one that is not.
 ghost use Rattle.choice_rank.specs.Choices.{IsShape};
 ghost use Rattle.tree_check.specs.Tests.{tiny_meaning, tiny_sound};
 
-use crate::{Refuter, check};
 use box_split::BoxBuf;
 use choice_rank::{Costs, Shape, VarShape};
 use refutation::{CheckFault, Node, Proof};
@@ -9,6 +9,7 @@ use res_base::Items;
 use search_api::Reason;
 use std::alloc::Global;
 use std::test::Fail;
+use tree_check::{Refuter, check};
 
 // A choice is legal where its first position is not below the least.
 #[derive(Drop)]
