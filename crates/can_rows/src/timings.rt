@@ -1,6 +1,6 @@
 //! Worked timings, and requests that none serves.
-use crate::{CanJudge, answer, btr, check_can};
 use answers::{Answer, Status};
+use can_timing::{CanJudge, answer, btr, check_can};
 use refutation::read_proof;
 use res_base::Ratio;
 use std::alloc::Global;
