@@ -1,6 +1,6 @@
 //! Which fault comes first, and what the requests say.
-use crate::{TableFault, read_dma};
 use dma_model::{DmaRequest, DmaTable};
+use dma_table::{TableFault, read_dma};
 use std::alloc::{AllocError, Global};
 use std::test::Fail;
 
