@@ -58,6 +58,3 @@ fn walk(vars: &[VarShape], path: u128, lo: &mut [u16], hi: &mut [u16]) -> Option
     }
     Some(variable)
 }
-
-#[cfg(test)]
-mod tests;

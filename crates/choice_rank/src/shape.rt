@@ -144,6 +144,3 @@ impl Shape {
         self.rank(at) == rank
     }
 }
-
-#[cfg(test)]
-mod tests;

@@ -109,6 +109,3 @@ pub(crate) fn reached_set(walk: &Walk, variables: usize) -> VarSet
     }
     out
 }
-
-#[cfg(test)]
-mod tests;
