@@ -1,3 +1,4 @@
+//! From a path to its box.
 ghost use Rattle.std.specs.Prelude.{◌≡◌, ◌≤◌, ◌↔◌, length, IsTrue, Some, None, IsSome, IfSome, MatchOption};
 ghost use Rattle.choice_rank.specs.Choices.{HasPositions};
 ghost use Rattle.box_split.specs.Boxes.{IsBox};
