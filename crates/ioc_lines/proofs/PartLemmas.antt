@@ -4,11 +4,10 @@ use Rattle.std.specs.Prelude.{◌||◌, IsSomeAnd}
 use Rattle.std.proofs.lemmas.Bool.Decides.{nat_tests}
 use Rattle.res_base.proofs.SumLemmas.{bool_cases}
 use Rattle.ioc_text.specs.Lines.{after_bytes, equals_at, equals_from, is_escapable, is_quiet, undone, undone_from}
-use Rattle.ioc_write.specs.Lines.{Keyed, escaped, escaped_byte, first_or_later, is_special, keyed, keyed_at, last_dot, rest_from}
-use Rattle.ioc_write.specs.WriteBack.{with_pin}
-use Rattle.ioc_write.proofs.BackLemmas.{byte_read, no_backslash}
-use Rattle.ioc_write.proofs.DivideLemmas.{cut, drop_past, front_is, front_read, key_had, long, some_same, take_front}
-use Rattle.ioc_write.proofs.Names.{escaped_first}
+use Rattle.ioc_lines.specs.Lines.{Keyed, escaped, escaped_byte, first_or_later, is_special, keyed, keyed_at, last_dot, rest_from}
+use Rattle.ioc_lines.specs.Lines.{with_pin}
+use Rattle.ioc_lines.proofs.NameLemmas.{byte_read, escaped_first, no_backslash}
+use Rattle.ioc_lines.proofs.DivideLemmas.{cut, drop_past, front_is, front_read, key_had, long, some_same, take_front}
 
 abbrev Bytes : Type 0
 Bytes = Option (List ℕ)
@@ -16,7 +15,7 @@ Bytes = Option (List ℕ)
 -- what is read after a byte is read of the rest
 record Rest (b : ℕ) (o : Bytes) (key : List ℕ) : Type 0 where
   more : List ℕ
-  read : o ≡ Some more
+  pub read : o ≡ Some more
   whole : b ∷ more ≡ key
 
 rest_of : (b : ℕ) (o : Bytes) (key : List ℕ) → after_bytes (b ∷ []) o ≡ Some key → Rest b o key
@@ -178,7 +177,7 @@ no_equals b h = third_false (b == 92) (b == 58) (b == 61) (b == 35) (b == 33) h
 no_mark : (b : ℕ) → is_special b ≡ false → (b == 35) ≡ false
 no_mark b h = fourth_false (b == 92) (b == 58) (b == 61) (b == 35) (b == 33) h
 
-name_passed : (i : ℕ) (name more : List ℕ) → equals_from false i (escaped name ++ more) ≡ equals_from false (i + length (escaped name)) more
+pub name_passed : (i : ℕ) (name more : List ℕ) → equals_from false i (escaped name ++ more) ≡ equals_from false (i + length (escaped name)) more
 unfolding equals_from escaped
 name_passed i [] more = ap (λ (n : ℕ). equals_from false n more) (omega arith)
 name_passed i (b ∷ bs) more = elim (bool_cases (is_special b)) [
@@ -204,7 +203,7 @@ name_front (b ∷ bs) more =
     ∙ ap (after_bytes (b ∷ [])) (name_front bs more)
     ∙ one_before b bs (undone_from false more)
 
-loud_name : (name more : List ℕ) → 0 < length name → is_quiet (escaped name ++ more) ≡ false
+pub loud_name : (name more : List ℕ) → 0 < length name → is_quiet (escaped name ++ more) ≡ false
 unfolding escaped
 loud_name [] more l = absurd (omega arith)
 loud_name (b ∷ bs) more l = elim (bool_cases (is_special b)) [
@@ -248,20 +247,20 @@ length_drop (suc at) [] l = absurd (omega arith)
 length_drop (suc at) (x ∷ xs) l = let n = length_drop at xs (omega arith) in omega (arith, n)
 
 module _ (says : List ℕ) (k : Keyed) (h : keyed says ≡ Some k) (dot : ℕ) (d : last_dot k.key ≡ Some dot) (name : List ℕ) (some : 0 < length name) where
-  front : List ℕ
+  pub front : List ℕ
   front = (cut says k h).front
 
-  rest : List ℕ
+  pub rest : List ℕ
   rest = (cut says k h).rest
 
-  parts : Cuts false front k.key dot
+  pub parts : Cuts false front k.key dot
   unfolding undone front
   parts = cuts false front k.key dot (front_read says k h) d
 
-  tail : List ℕ
+  pub tail : List ℕ
   tail = drop parts.at front
 
-  renamed : with_pin says k.equals (escaped name) ≡ (escaped name ++ tail) ++ 61 ∷ rest
+  pub renamed : with_pin says k.equals (escaped name) ≡ (escaped name ++ tail) ++ 61 ∷ rest
   unfolding with_pin front rest tail
   renamed =
       ap (λ (xs : List ℕ). escaped name ++ rest_from says (last_dot xs)) (front_is says k h)
@@ -270,7 +269,7 @@ module _ (says : List ℕ) (k : Keyed) (h : keyed says ≡ Some k) (dot : ℕ) (
       ∙ ap (λ (xs : List ℕ). escaped name ++ xs) (drop_front parts.at front (61 ∷ rest) parts.within)
       ∙ sym (append_assoc (escaped name) tail (61 ∷ rest))
 
-  stands : equals_at ((escaped name ++ tail) ++ 61 ∷ rest) ≡ Some (length (escaped name ++ tail))
+  pub stands : equals_at ((escaped name ++ tail) ++ 61 ∷ rest) ≡ Some (length (escaped name ++ tail))
   unfolding equals_at front rest tail
   stands =
       let t = length tail in
@@ -282,21 +281,21 @@ module _ (says : List ℕ) (k : Keyed) (h : keyed says ≡ Some k) (dot : ℕ) (
       ∙ other_start (0 + parts.at) t (0 + length (escaped name)) (tail ++ 61 ∷ rest) (here ∙ ap Some sum)
       ∙ ap Some (let n = length-append (escaped name) tail in omega (arith, n))
 
-  read : undone (escaped name ++ tail) ≡ Some (name ++ drop dot k.key)
+  pub read : undone (escaped name ++ tail) ≡ Some (name ++ drop dot k.key)
   unfolding undone tail
   read = name_front name tail ∙ ap (after_bytes name) parts.read
 
-  new_key : Keyed
+  pub new_key : Keyed
   new_key = keyed_at (name ++ drop dot k.key) (length (escaped name ++ tail))
 
-  new_is : keyed ((escaped name ++ tail) ++ 61 ∷ rest) ≡ Some new_key
+  pub new_is : keyed ((escaped name ++ tail) ++ 61 ∷ rest) ≡ Some new_key
   unfolding new_key
   new_is =
       key_had ((escaped name ++ tail) ++ 61 ∷ rest) (length (escaped name ++ tail)) (name ++ drop dot k.key)
       (ap is_quiet (append_assoc (escaped name) tail (61 ∷ rest)) ∙ loud_name name (tail ++ 61 ∷ rest) some) stands
       (ap undone (take_front (escaped name ++ tail) (61 ∷ rest)) ∙ read)
 
-  value_stays : drop (length (escaped name ++ tail) + 1) ((escaped name ++ tail) ++ 61 ∷ rest) ≡ drop (k.equals + 1) says
+  pub value_stays : drop (length (escaped name ++ tail) + 1) ((escaped name ++ tail) ++ 61 ∷ rest) ≡ drop (k.equals + 1) says
   unfolding front rest
   value_stays =
       drop_past (escaped name ++ tail) 61 rest
@@ -306,3 +305,16 @@ module _ (says : List ℕ) (k : Keyed) (h : keyed says ≡ Some k) (dot : ℕ) (
       (λ (j : Keyed). (j.key ≡ name ++ drop dot k.key) × (drop (j.equals + 1) (with_pin says k.equals (escaped name)) ≡ drop (k.equals + 1) says))
   unfolding new_key
   pin_changes = rw (renamed, new_is) (refl, value_stays)
+
+  -- what a line says with another pin in its key
+  pub record IsRenamed : Type 0 where
+    pub cut_at : ℕ
+    pub is : with_pin says k.equals (escaped name) ≡ (escaped name ++ drop cut_at (cut says k h).front) ++ 61 ∷ (cut says k h).rest
+    pub by : Keyed
+    pub keyed_is : keyed (with_pin says k.equals (escaped name)) ≡ Some by
+    pub key_is : by.key ≡ name ++ drop dot k.key
+    pub raw_is : drop (by.equals + 1) (with_pin says k.equals (escaped name)) ≡ drop (k.equals + 1) says
+
+  pub is_renamed : IsRenamed
+  unfolding front rest tail new_key
+  is_renamed = record { cut_at = parts.at; is = renamed; by = new_key; keyed_is = ap keyed renamed ∙ new_is; key_is = refl; raw_is = ap (drop (new_key.equals + 1)) renamed ∙ value_stays }

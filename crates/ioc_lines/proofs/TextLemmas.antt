@@ -6,7 +6,7 @@ use Rattle.std.specs.Str.Lines as std_lines
 use Rattle.std.specs.Str.Lines.{strip_carriage_return}
 use Rattle.std.proofs.lemmas.Bool.Decides.{nat_tests}
 use Rattle.res_base.proofs.SumLemmas.{bool_cases}
-use Rattle.ioc_write.specs.Lines.{TextLine, ended, lines_of_parts, text_lines, unended}
+use Rattle.ioc_lines.specs.Lines.{TextLine, ended, lines_of_parts, text_lines, unended}
 
 abbrev pub whole : TextLine → List ℕ
 whole l = l.says ++ l.end
@@ -33,14 +33,14 @@ joined [] = []
 joined (part ∷ []) = part
 joined (part ∷ next ∷ more) = part ++ 10 ∷ joined (next ∷ more)
 
-front_and_last : (b : ℕ) (bs : List ℕ) → b ∷ bs ≡ take (length bs) (b ∷ bs) ++ slice_index (b ∷ bs) (length bs) ∷ []
+pub front_and_last : (b : ℕ) (bs : List ℕ) → b ∷ bs ≡ take (length bs) (b ∷ bs) ++ slice_index (b ∷ bs) (length bs) ∷ []
 front_and_last b [] = refl
 front_and_last b (c ∷ bs) = ap (λ (xs : List ℕ). b ∷ xs) (front_and_last c bs)
 
-less_one : (n : ℕ) → suc n - 1 ≡ n
+pub less_one : (n : ℕ) → suc n - 1 ≡ n
 less_one n = omega arith
 
-whole_ended : (part : List ℕ) → whole (ended part) ≡ part ++ 10 ∷ []
+pub whole_ended : (part : List ℕ) → whole (ended part) ≡ part ++ 10 ∷ []
 whole_ended [] = refl
 whole_ended (b ∷ bs) = rw (less_one (length bs)) (case (slice_index (b ∷ bs) (length bs)) refl)
   where

@@ -1,6 +1,8 @@
 -- A project's text: its lines with their ends, and their keys.
-use Rattle.std.specs.Prelude.{ℕ, ◌+◌, ◌-◌, ◌==◌, ◌||◌, List, [], ◌∷◌, length, take, drop, Bool, if◌then◌else◌, Option, Some, None, slice_index}
+use Rattle.std.specs.Prelude.{◌≡◌, ◌⊎◌, ℕ, ◌+◌, ◌-◌, ◌==◌, ◌||◌, List, [], ◌∷◌, ◌++◌, length, take, drop, Bool, false, if◌then◌else◌, Option, Some, None, codes, slice_index}
 use Rattle.std.specs.List.{flat_map, slice_split}
+use Rattle.res_base.specs.Lists.{Each}
+use Rattle.std.specs.Str.{bytes_eq}
 use Rattle.std.specs.Str.Lines.{strip_carriage_return}
 use Rattle.ioc_text.specs.Lines.{equals_at, is_quiet, undone}
 
@@ -86,3 +88,30 @@ escaped_byte b = if is_special b then 92 ∷ b ∷ [] else b ∷ []
 -- a name with a backslash before each of those
 unfoldable pub escaped : List ℕ → List ℕ
 escaped name = flat_map escaped_byte name
+
+-- what a line says with another value: all up to its = stays
+abbrev pub with_value : List ℕ → ℕ → List ℕ → List ℕ
+with_value says equals value = take (equals + 1) says ++ value
+
+-- what a line says with another pin in its key: all from the key's last dot on stays
+unfoldable pub with_pin : List ℕ → ℕ → List ℕ → List ℕ
+with_pin says equals name = name ++ rest_from says (last_dot (take equals says))
+
+-- no LF is among them
+abbrev pub IsClean : List ℕ → Type 0
+IsClean bs = Each (λ (b : ℕ). (b == 10) ≡ false) bs
+
+unfoldable pub last_of : List ℕ → ℕ
+last_of [] = 0
+last_of (b ∷ []) = b
+last_of (b ∷ c ∷ bs) = last_of (c ∷ bs)
+
+-- a line that ends at LF, or at CR LF: where LF alone ends it, it does not end in CR
+pub record IsEnded (l : TextLine) : Type 0 where
+  pub clean : IsClean l.says
+  pub by : ((l.end ≡ 10 ∷ []) × ((last_of l.says == 13) ≡ false)) ⊎ (l.end ≡ 13 ∷ 10 ∷ [])
+
+-- what names a key of a pin
+abbrev pub is_suffix : List ℕ → Bool
+is_suffix rest =
+    bytes_eq (codes ".Signal") rest || bytes_eq (codes ".Locked") rest || bytes_eq (codes ".GPIO_PuPd") rest || bytes_eq (codes ".GPIO_Speed") rest

@@ -1,5 +1,5 @@
-use Rattle.ioc_write.proofs.DivideLemmas.{key_stays, value_is}
-use Rattle.ioc_write.proofs.laws.keys_stay_with_other_values.Goals as goal
+use Rattle.ioc_lines.proofs.DivideLemmas.{key_stays, value_is}
+use Rattle.ioc_lines.proofs.laws.keys_stay_with_other_values.Goals as goal
 
 pub returns-clause-key : goal.returns-clause-key
 returns-clause-key c = λ says value k h. key_stays says k h value

@@ -3,8 +3,8 @@ use Rattle.std.proofs.Common.{◌≡◌, ℕ, suc, ◌+◌, ◌==◌, List, [], 
 use Rattle.std.proofs.lemmas.Bool.Decides.{nat_tests}
 use Rattle.res_base.proofs.SumLemmas.{bool_cases}
 use Rattle.ioc_text.specs.Lines.{equals_at, equals_from, is_quiet, undone}
-use Rattle.ioc_write.specs.Lines.{Keyed, divided, keyed, keyed_at, with_key}
-use Rattle.ioc_write.specs.WriteBack.{with_value}
+use Rattle.ioc_lines.specs.Lines.{Keyed, divided, keyed, keyed_at, with_key}
+use Rattle.ioc_lines.specs.Lines.{with_value}
 
 pub some_same : (a b : ℕ) → Some a ≡ Some b → a ≡ b
 some_same a b e = cc
@@ -19,7 +19,7 @@ pub record Divides (p : Bool) (at : ℕ) (bytes : List ℕ) (place : ℕ) : Type
   pub there : at + length front ≡ place
   pub any : (more : List ℕ) → equals_from p at (front ++ 61 ∷ more) ≡ Some place
 
-divides : (p : Bool) (at : ℕ) (bytes : List ℕ) (place : ℕ) → equals_from p at bytes ≡ Some place → Divides p at bytes place
+pub divides : (p : Bool) (at : ℕ) (bytes : List ℕ) (place : ℕ) → equals_from p at bytes ≡ Some place → Divides p at bytes place
 unfolding equals_from
 divides true at [] place e = absurd cc
 divides false at [] place e = absurd cc
@@ -83,7 +83,7 @@ by_place says (Some at) k e =
     let r = by_key at (undone (take at says)) k e in
     (ap Some r.0, ap (λ (n : ℕ). undone (take n says)) (sym r.0) ∙ r.1)
 
-has_key : (says : List ℕ) (k : Keyed) → keyed says ≡ Some k → HasKey says k
+pub has_key : (says : List ℕ) (k : Keyed) → keyed says ≡ Some k → HasKey says k
 unfolding keyed
 has_key says k e = elim (bool_cases (is_quiet says)) [
   | inl q ↦ let f : (let n : Option Keyed = None in n) ≡ Some k = rw q at e in absurd cc
@@ -118,17 +118,17 @@ module _ (says : List ℕ) (k : Keyed) (h : keyed says ≡ Some k) where
   front_read = ap undone (sym front_is) ∙ has.read
 
   module _ (value : List ℕ) where
-    with_is : with_value says k.equals value ≡ cut.front ++ 61 ∷ value
+    pub with_is : with_value says k.equals value ≡ cut.front ++ 61 ∷ value
     with_is = ap (λ (xs : List ℕ). xs ++ value) up_to ∙ append_assoc cut.front (61 ∷ []) value
 
-    loud_with : is_quiet (cut.front ++ 61 ∷ value) ≡ false
+    pub loud_with : is_quiet (cut.front ++ 61 ∷ value) ≡ false
     loud_with = same_quiet cut.front value cut.rest ∙ ap is_quiet (sym cut.whole) ∙ has.loud
 
-    divided_with : equals_at (cut.front ++ 61 ∷ value) ≡ Some k.equals
+    pub divided_with : equals_at (cut.front ++ 61 ∷ value) ≡ Some k.equals
     unfolding equals_at
     divided_with = cut.any value
 
-    read_with : undone (take k.equals (cut.front ++ 61 ∷ value)) ≡ Some k.key
+    pub read_with : undone (take k.equals (cut.front ++ 61 ∷ value)) ≡ Some k.key
     read_with = ap (λ (n : ℕ). undone (take n (cut.front ++ 61 ∷ value))) (sym long) ∙ ap undone (take_front cut.front (61 ∷ value)) ∙ front_read
 
     pub key_stays : keyed (with_value says k.equals value) ≡ Some k
