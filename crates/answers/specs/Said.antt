@@ -2,7 +2,7 @@
 use Rattle.std.specs.Prelude.{◌≡◌, ℕ, List, [], ◌∷◌, ◌++◌}
 use Rattle.answers.specs.declared.answer.Answer.{Answer}
 use Rattle.answers.specs.declared.answer.Status.{Status}
-use Rattle.answers.specs.declared.answer.Status.TheVariants.{Done, NoChoice, Usage, ReadFailed, TooLong, TableRefused, ProjectRefused, TooWide, WriteFailed, OutOfMemory, ProofRefused, WriteBackRefused, RequestRefused}
+use Rattle.answers.specs.declared.answer.Status.TheVariants.{Done, NoChoice, Usage, ReadFailed, TooLong, TableRefused, ProjectRefused, TooWide, WriteFailed, OutOfMemory, ProofRefused, WriteBackRefused, RequestRefused, CTextRefused, AnswersRefused, TraceTooLong}
 
 -- this status, and this text
 abbrev pub answered : Status → List ℕ → Answer
@@ -27,3 +27,6 @@ number_of OutOfMemory = 9
 number_of ProofRefused = 10
 number_of WriteBackRefused = 12
 number_of RequestRefused = 13
+number_of CTextRefused = 14
+number_of AnswersRefused = 15
+number_of TraceTooLong = 16

@@ -34,6 +34,12 @@ pub enum Status {
     WriteBackRefused,
     /// A DMA request that the table does not have, or that was asked for before.
     RequestRefused,
+    /// The C text has no reading.
+    CTextRefused,
+    /// The text of the flag answers is not of its form, or has too many.
+    AnswersRefused,
+    /// A traced run has too many steps.
+    TraceTooLong,
 }
 
 impl Status {
@@ -55,6 +61,9 @@ impl Status {
             Status::ProofRefused => 10,
             Status::WriteBackRefused => 12,
             Status::RequestRefused => 13,
+            Status::CTextRefused => 14,
+            Status::AnswersRefused => 15,
+            Status::TraceTooLong => 16,
         }
     }
 }

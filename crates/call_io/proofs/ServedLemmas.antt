@@ -5,7 +5,7 @@ use Rattle.std.proofs.lemmas.Bool.Decides.{nat_tests}
 use Rattle.answers.specs.Said.{Says, number_of}
 use Rattle.answers.specs.declared.answer.Answer.{Answer}
 use Rattle.answers.specs.declared.answer.Status.{Status}
-use Rattle.answers.specs.declared.answer.Status.TheVariants.{Done, NoChoice, Usage, ReadFailed, TooLong, TableRefused, ProjectRefused, TooWide, WriteFailed, OutOfMemory, ProofRefused, WriteBackRefused, RequestRefused}
+use Rattle.answers.specs.declared.answer.Status.TheVariants.{Done, NoChoice, Usage, ReadFailed, TooLong, TableRefused, ProjectRefused, TooWide, WriteFailed, OutOfMemory, ProofRefused, WriteBackRefused, RequestRefused, CTextRefused, AnswersRefused, TraceTooLong}
 use Rattle.call_io.specs.Gathered.{AllRead, AreSeen, IsClear, IsOfInputs, Stopped, Unread, failed, long}
 use Rattle.call_io.specs.Inputs.{Files, Input, Reads, Wrote, first_long, inputs_told, with_input}
 use Rattle.call_io.specs.Ran.{Answers, Ended, NoneFailed, IsOwn, IsWritten, Ran, Served, WroteText, answered as answered_by, part, starved, whole}
@@ -166,6 +166,9 @@ two_is_usage OutOfMemory e = absurd cc
 two_is_usage ProofRefused e = absurd cc
 two_is_usage WriteBackRefused e = absurd cc
 two_is_usage RequestRefused e = absurd cc
+two_is_usage CTextRefused e = absurd cc
+two_is_usage AnswersRefused e = absurd cc
+two_is_usage TraceTooLong e = absurd cc
 
 -- where an answer of status 2 is due and no input is asked for, a call answers 2, or 8 or 9
 pub ends_as_usage : (owed : List Input → Answer → Type 0) (before after : Reads) (out_before out_after : Wrote) (status : Status) → ((a : Answer) → owed [] a → a.status ≡ Usage)
