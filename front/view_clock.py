@@ -69,8 +69,13 @@ def waits_of(clock):
     return "no row" if clock.wait == "none" else f"{clock.wait} wait" + ("" if clock.wait == "1" else "s")
 
 
+def power_of(clock):
+    """The power step in as few letters as the node has room for."""
+    return "over-drive" if clock.over else f"scale {clock.vos}"
+
+
 def old_flash(clock, old):
-    return waits_of(old) + ("" if old.step == clock.step else f", scale {old.scale}")
+    return waits_of(old) + ("" if old.step == clock.step else f", {power_of(old)}")
 
 
 def flash_cell(clock, old, broken):
@@ -78,8 +83,9 @@ def flash_cell(clock, old, broken):
     was = "" if (old.wait, old.vdd, old.step) == (clock.wait, clock.vdd, clock.step) else old_flash(clock, old)
     is_broken = clock.wait == "none" or NODE_OF_LIMIT.get(broken) == "FLASH"
     state = "broken" if is_broken else "changed" if was else "same"
-    return Cell("FLASH", waits, f"scale {clock.scale}", old.step != clock.step, was, f"supply {clock.vdd} mV", "", None, state,
-                "wait states of the flash; the voltage scale of the regulator")
+    supply = f"scale {clock.vos}, {clock.vdd} mV" if clock.over else f"supply {clock.vdd} mV"
+    return Cell("FLASH", waits, power_of(clock), old.step != clock.step, was, supply, "", None, state,
+                f"wait states of the flash at {clock.vdd} mV; the regulator's voltage scale {clock.scale}")
 
 
 def cells_of(table, clock, old, ips, wishes, broken):

@@ -4,6 +4,3 @@
 mod answer;
 
 pub use answer::{Answer, Status, counts, names, says};
-
-#[cfg(test)]
-mod tests;

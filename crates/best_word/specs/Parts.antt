@@ -1,4 +1,4 @@
--- Views that have a part: exactly one is first, and the others are those that it counts as out.
+-- Internal: views that have a part: exactly one is first, and the others are those that it counts as out.
 use Rattle.std.specs.Prelude.{◌≡◌, ◌≢◌, ℕ, List}
 use mathlib.Core.Option.{some}
 use lib.ListN.{get_elem?}

@@ -1,4 +1,4 @@
--- The meaning of the judge of the tests: every choice of two variables is legal.
+-- For tests: a judge of two variables for which every choice is legal.
 use Rattle.std.specs.Prelude.{◌≡◌, List, [], ◌∷◌, Bool, true, false, if◌then◌else◌}
 use Rattle.std.proofs.Common.{refl, arith}
 use Rattle.choice_rank.specs.Choices.{IsShape}

@@ -6,6 +6,3 @@ mod word;
 
 pub use part::Part;
 pub use word::{BestSeat, BestWord, View};
-
-#[cfg(test)]
-mod tests;

@@ -1,3 +1,5 @@
+//! The part of a seat.
+
 /// What a seat is among those of its word.
 #[derive(Clone, Copy, Debug, PartialEq, Eq)]
 pub enum Part {

@@ -40,6 +40,3 @@ pub fn make_case(alloc: Global, number: u64) -> Result<Case, OutOfMemory>
         needs: needs(alloc)?,
     })
 }
-
-#[cfg(test)]
-mod tests;

@@ -1,5 +1,5 @@
 -- The ranks of clocks whose signals stay always fit.
-use Rattle.std.proofs.Common.{◌≡◌, ℕ, zero, suc, ◌+◌, ◌-◌, ◌*◌, ◌^◌, ◌<◌, ◌≤◌, ◌++◌, List, [], ◌∷◌, length, Bool, true, false, not, length-append, refl, ap, ◌∙◌, arith}
+use Rattle.std.proofs.Common.{◌≡◌, ℕ, zero, suc, ◌+◌, ◌-◌, ◌*◌, ◌^◌, ◌<◌, ◌≤◌, ◌++◌, ◌==◌, List, [], ◌∷◌, length, Bool, true, false, cond, not, length-append, refl, ap, ◌∙◌, arith}
 use Rattle.std.specs.Prelude.{filter}
 use Rattle.std.proofs.lemmas.List.Filters.{length-filter_both}
 use Rattle.std.proofs.lemmas.Nat.{mul-le}
@@ -10,7 +10,7 @@ use Rattle.choice_rank.specs.declared.variable.VarShape.{VarShape}
 use Rattle.choice_rank.proofs.WidthLemmas.{cost_most_le}
 use Rattle.problem.specs.ClockValues.{between, clock_domains, clock_variables, home_first, is_home, numbers_from, values_with}
 use Rattle.res_model.specs.Clock.{IsBetween}
-use Rattle.res_model.specs.ClockValues.{ahb_dividers, apb_dividers, known_scales, pll_dividers}
+use Rattle.res_model.specs.ClockValues.{ahb_dividers, apb_dividers, known_steps, pll_dividers}
 use Rattle.res_model.specs.Valid.{AreAmong, AreDomains, IsRange}
 use Rattle.res_model.specs.declared.project.Home.{Home}
 use Rattle.res_model.specs.declared.table.TableParts.{TableParts}
@@ -49,8 +49,13 @@ apb_within = ((omega arith, omega arith), ((omega arith, omega arith), ((omega a
 pll_within : Each (IsBetween 2 8) pll_dividers
 pll_within = ((omega arith, omega arith), ((omega arith, omega arith), ((omega arith, omega arith), ((omega arith, omega arith), tt))))
 
-scales_within : Each (IsBetween 1 2) known_scales
-scales_within = ((omega arith, omega arith), ((omega arith, omega arith), tt))
+-- the power steps of either version
+steps_within : (version : ℕ) → Each (IsBetween 1 5) (known_steps version)
+steps_within version = of_version (version == 1)
+  where
+    of_version : (first : Bool) → Each (IsBetween 1 5) (cond first (1 ∷ 2 ∷ []) (1 ∷ 2 ∷ 3 ∷ 4 ∷ 5 ∷ []))
+    of_version true = ((omega arith, omega arith), ((omega arith, omega arith), tt))
+    of_version false = ((omega arith, omega arith), ((omega arith, omega arith), ((omega arith, omega arith), ((omega arith, omega arith), ((omega arith, omega arith), tt)))))
 
 -- each list is no longer than the number beside it, which is none
 AreCapped : List ℕ → List (List ℕ) → Type 0
@@ -60,9 +65,9 @@ AreCapped (c ∷ cs) [] = ⊥
 AreCapped (c ∷ cs) (d ∷ ds) = ((1 ≤ c) × (length d ≤ c)) × AreCapped cs ds
 
 caps : List ℕ
-caps = 3 ∷ 2 ∷ 512 ∷ 7 ∷ 62 ∷ 383 ∷ 14 ∷ 16 ∷ 16 ∷ 2 ∷ []
+caps = 3 ∷ 2 ∷ 512 ∷ 7 ∷ 62 ∷ 383 ∷ 14 ∷ 16 ∷ 16 ∷ 5 ∷ []
 
-domains_capped : (t : TableParts) → AreDomains t.clock → AreCapped caps (clock_domains t)
+domains_capped : (t : TableParts) → AreDomains t.version t.clock → AreCapped caps (clock_domains t)
 unfolding clock_domains caps AreCapped
 domains_capped t c = (
   (omega arith, omega arith),
@@ -82,7 +87,7 @@ domains_capped t c = (
                 (omega arith, omega (arith, short_among 1 16 apb_dividers t.clock.ppre1 apb_within c.ppre1)),
                 (
                   (omega arith, omega (arith, short_among 1 16 apb_dividers t.clock.ppre2 apb_within c.ppre2)),
-                  ((omega arith, omega (arith, short_among 1 2 known_scales t.clock.vos scales_within c.vos)), tt),
+                  ((omega arith, omega (arith, short_among 1 5 (known_steps t.version) t.clock.vos (steps_within t.version) c.vos)), tt),
                 ),
               ),
             ),
@@ -127,16 +132,16 @@ alone_costs : (n : ℕ) → costs_most (alone_variables n) ≡ 0
 alone_costs zero = refl
 alone_costs (suc n) = omega (arith, alone_costs n)
 
-all_caps : product caps ≡ 3660224397312
+all_caps : product caps ≡ 9150560993280
 unfolding product caps
 all_caps = refl
 
-narrow_from : (cost choices most : ℕ) → cost ≤ 10 → choices ≤ most → most ≡ 3660224397312 → (1 + cost) * choices ≤ 2 ^ 63
+narrow_from : (cost choices most : ℕ) → cost ≤ 10 → choices ≤ most → most ≡ 9150560993280 → (1 + cost) * choices ≤ 2 ^ 63
 narrow_from cost choices most l m e =
-    let p : (1 + cost) * choices ≤ 11 * 3660224397312 = mul-le (1 + cost) choices 11 3660224397312 (omega (arith, l)) (omega (arith, m, e)) in
+    let p : (1 + cost) * choices ≤ 11 * 9150560993280 = mul-le (1 + cost) choices 11 9150560993280 (omega (arith, l)) (omega (arith, m, e)) in
     omega (arith, p)
 
-pub clocks_narrow : (fixes : Bool) (t : TableParts) (hs : List Home) (n : ℕ) → AreDomains t.clock → length hs ≡ length (clock_domains t) → length (clock_variables fixes (clock_domains t) hs) ≡ 10 → IsNarrow (clock_variables fixes (clock_domains t) hs ++ alone_variables n)
+pub clocks_narrow : (fixes : Bool) (t : TableParts) (hs : List Home) (n : ℕ) → AreDomains t.version t.clock → length hs ≡ length (clock_domains t) → length (clock_variables fixes (clock_domains t) hs) ≡ 10 → IsNarrow (clock_variables fixes (clock_domains t) hs ++ alone_variables n)
 clocks_narrow fixes t hs n domains e ten =
     let vs : List VarShape = clock_variables fixes (clock_domains t) hs in
     let cost : costs_most (vs ++ alone_variables n) ≤ 10 = omega (arith, costs_joined vs (alone_variables n), alone_costs n, costs_few vs, ten) in

@@ -52,7 +52,7 @@ setups_kept t ss us = ap (λ (f : ℕ → Option Setup). map f places) (fun_ext 
 
 -- a setting from its parts
 abbrev made : TableParts → Facts → ClockChoice → List Signal → List PinUse → Setting
-made t f c ss us = record { facts = f; clock = c; wait = unwrap_or (wait_of t f.vdd (hclk_of f c)) 0; prefetch = range_prefetches (range_at t f.vdd); pins = setups_of t ss us }
+made t f c ss us = record { version = t.version; facts = f; clock = c; wait = unwrap_or (wait_of t f.vdd (hclk_of f c)) 0; prefetch = range_prefetches (range_at t f.vdd); pins = setups_of t ss us }
 
 module _ (t : TableParts) (p : Project) (opts : Opts) (board : IsBoard t p opts) (at : List ℕ) (placement : IsChoice (pins_of t p opts).shape at) (ks : List ℕ) (clocks : IsChoice (clock_shape t p opts Whole) ks) where
   abbrev us : List PinUse
@@ -104,7 +104,7 @@ module _ (t : TableParts) (p : Project) (opts : Opts) (board : IsBoard t p opts)
       ap (λ (c : ClockChoice). made t (facts_of t (fixed p us) opts) c ss (uses_at (pin_values t ss) (drop 10 (alone p ks)))) alone_clock
       ∙ ap (λ (xs : List PinUse). made t (facts_of t (fixed p us) opts) (clock_at values ks) ss xs) clocks_uses
       ∙ ap (λ (f : Facts). made t f (clock_at values ks) ss us) (facts_kept t p us opts)
-      ∙ ap (λ (u : List (Option Setup)). (let x : Setting = record { facts = facts_of t p opts; clock = clock_at values ks; wait = unwrap_or (wait_of t (facts_of t p opts).vdd (hclk_of (facts_of t p opts) (clock_at values ks))) 0; prefetch = range_prefetches (range_at t (facts_of t p opts).vdd); pins = u } in x)) (setups_kept t p.signals us)
+      ∙ ap (λ (u : List (Option Setup)). (let x : Setting = record { version = t.version; facts = facts_of t p opts; clock = clock_at values ks; wait = unwrap_or (wait_of t (facts_of t p opts).vdd (hclk_of (facts_of t p opts) (clock_at values ks))) 0; prefetch = range_prefetches (range_at t (facts_of t p opts).vdd); pins = u } in x)) (setups_kept t p.signals us)
 
   pub same_setting : setting_of (clocks_of t p opts at) (alone p ks) ≡ setting_of (whole_of t p opts) (joined ks at)
   same_setting = alone_setting ∙ sym whole_setting

@@ -1,4 +1,4 @@
--- When room fits a judge, and what its contests show.
+-- Internal: when room fits a judge, and what its contests show.
 use Rattle.std.specs.Prelude.{List, Option, Some, None}
 use Rattle.res_base.specs.declared.var_set.VarSet.{VarSet}
 use Rattle.box_split.specs.Boxes.{Run}

@@ -1,4 +1,4 @@
--- When room with what was kept fits a judge.
+-- Internal: when room with what was kept fits a judge.
 use Rattle.std.specs.Prelude.{◌≡◌, IfSome}
 use Rattle.box_split.specs.BoxIn.{box_in}
 use Rattle.problem.specs.declared.parts.ProblemParts.{ProblemParts}

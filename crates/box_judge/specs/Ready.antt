@@ -1,4 +1,4 @@
--- For the ghost field in which a judge keeps what it needs of its problem, and its law.
+-- Internal: for the ghost field in which a judge keeps what it needs of its problem, and its law.
 use Rattle.std.specs.Prelude.{◌≡◌, ℕ, List, [], ◌∷◌, drop, take}
 use Rattle.std.specs.Coded.{×_prop, Unit-prop, le_prop}
 use denote.Struct.Props.{props}

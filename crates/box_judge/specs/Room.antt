@@ -1,4 +1,4 @@
--- Room for the sets of those that compete.
+-- Internal: room for the sets of those that compete.
 use Rattle.std.specs.Prelude.{◌≡◌, ◌≤◌, List, length}
 use Rattle.res_model.specs.declared.table.PinUse.{PinUse}
 use Rattle.search_api.specs.declared.verdict.Class.{Class}

@@ -1,3 +1,4 @@
+//! The judge of pins and clocks.
 ghost use Rattle.std.specs.Prelude.{◌≡◌, ◌≢◌, IsOkAnd, take};
 ghost use Rattle.search_api.proofs.ShapeLemmas.{shape_prop};
 ghost use Rattle.clock_limits.specs.Ranges.{shown_limit};

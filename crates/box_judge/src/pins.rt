@@ -1,3 +1,4 @@
+//! The judge of pins alone.
 ghost use Rattle.std.specs.Prelude.{◌≡◌, IsOkAnd};
 ghost use Rattle.search_api.proofs.ShapeLemmas.{shape_prop};
 ghost use Rattle.box_rules.specs.Judged.{IsReady, pin_meaning, pin_verdict};

@@ -1,4 +1,4 @@
--- The runs of a box, beside the values.
+-- Internal: the runs of a box, beside the values.
 use Rattle.std.specs.Prelude.{◌≤◌, ◌<◌, List, [], ◌∷◌, length}
 use Rattle.box_split.specs.Boxes.{Run}
 use Rattle.res_model.specs.declared.table.PinUse.{PinUse}

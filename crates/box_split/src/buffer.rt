@@ -1,3 +1,4 @@
+//! A box in memory.
 ghost use Rattle.std.specs.Prelude.{◌≡◌, replicate};
 
 /// A run of positions for each of at most 170 variables: those from `lo` to `hi`.

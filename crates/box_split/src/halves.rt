@@ -1,3 +1,4 @@
+//! The halves of a box, and the lowest choice in it.
 ghost use Rattle.std.specs.Prelude.{◌≡◌, Some, is_none};
 ghost use Rattle.choice_rank.specs.Choices.{IsChoice};
 ghost use Rattle.box_split.specs.Boxes.{IsBox, is_single, lows, low_of};

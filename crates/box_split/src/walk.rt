@@ -1,3 +1,4 @@
+//! From a path to its box.
 ghost use Rattle.std.specs.Prelude.{◌≡◌, ◌≤◌, ◌↔◌, length, IsTrue, Some, None, IsSome, IfSome, MatchOption};
 ghost use Rattle.choice_rank.specs.Choices.{HasPositions};
 ghost use Rattle.box_split.specs.Boxes.{IsBox};
@@ -58,6 +59,3 @@ fn walk(vars: &[VarShape], path: u128, lo: &mut [u16], hi: &mut [u16]) -> Option
     }
     Some(variable)
 }
-
-#[cfg(test)]
-mod tests;

@@ -1,5 +1,5 @@
 -- The line of the frame at a place.
-use Rattle.std.proofs.Common.{◌≡◌, ◌≢◌, ℕ, zero, suc, ◌<◌, List, [], ◌++◌, Bool, true, false, get_or, refl, sym, ap, ◌∙◌}
+use Rattle.std.proofs.Common.{◌≡◌, ◌≢◌, ℕ, zero, suc, ◌<◌, List, [], ◌++◌, Bool, true, false, length, get_or, refl, sym, ap, ◌∙◌, arith}
 use Rattle.c_print.specs.declared.part.Part.{Part}
 use Rattle.c_print.specs.declared.part.Part.TheVariants as part
 use Rattle.c_print.specs.Text.{part_text, answers_part, frame}
@@ -16,13 +16,13 @@ pub no_answers : (over : Bool) (text : List ℕ) → ((rest : List ℕ) → text
 no_answers over text short long false rest is = short rest is.1
 no_answers over text short long true rest is = long rest is.1
 
--- the third line, once it is read, tells which frame it is
-same_frame : (over next : Bool) → part_text (answers_part next) ≡ part_text (answers_part over) → next ≡ over
+-- the third line tells which frame it is
+pub same_frame : (over next : Bool) → part_text (answers_part next) ≡ part_text (answers_part over) → next ≡ over
 unfolding part_text
 same_frame true true e = refl
 same_frame false false e = refl
-same_frame true false e = absurd cc
-same_frame false true e = absurd cc
+same_frame true false e = absurd (let l = ap length e in omega (arith, l))
+same_frame false true e = absurd (let l = ap length e in omega (arith, l))
 
 -- at any other place both frames have one line, or the line before tells which it is
 same_part : (over next : Bool) (place : ℕ) → place < 6 → place ≢ 2 → GoesOn place over next → get_or (frame next) place [] ≡ get_or (frame over) place []

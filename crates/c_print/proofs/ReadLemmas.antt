@@ -9,9 +9,10 @@ use Rattle.c_print.specs.declared.part.Part.TheVariants as part
 use Rattle.reg_machine.specs.declared.op.Op.TheVariants as op
 use Rattle.reg_machine.specs.declared.op.Timeout.TheVariants as timeout
 use Rattle.reg_map.specs.declared.register.Reg.TheVariants as reg
-use Rattle.c_print.specs.Text.{part_text, op_line, is_over_op, awaits_over, answers_part, frame, last_lines, body_lines, c_lines, c_text_of}
+use Rattle.c_print.specs.Text.{part_text, op_line, is_over_op, awaits_over, frame, last_lines, body_lines, c_lines, c_text_of}
 use Rattle.c_print.specs.Reading.{FitsLine, lines_of, AgreesFor, DepartsAt, Reads}
 use Rattle.c_print.specs.Fronts.{BeginsNone, IsFrameLine, FitsFrame}
+use Rattle.c_print.proofs.FrameLemmas.{same_frame}
 use Rattle.c_print.proofs.LineLemmas.{op_apart, not_return, joined, after_frame_lines, frame_front, ops_then_lines, return_then, close_then, text_parts, text_lines}
 
 -- ---- six lines more, and a line for each op more
@@ -26,16 +27,8 @@ past_ops_is : (ops : List Op) (k : ℕ) → past_ops ops k ≡ length ops + k
 past_ops_is [] k = omega arith
 past_ops_is (o ∷ os) k = omega (arith, past_ops_is os k)
 
--- the third line tells which it is
-third_line : (a b : Bool) → part_text (answers_part a) ≡ part_text (answers_part b) → a ≡ b
-unfolding part_text
-third_line true true e = refl
-third_line false false e = refl
-third_line true false e = absurd (let l = ap length e in omega (arith, l))
-third_line false true e = absurd (let l = ap length e in omega (arith, l))
-
 frame_cancel : (a b : Bool) (n : ℕ) (ls ms : List (List ℕ)) → take (six n) (frame a ++ ls) ≡ take (six n) (frame b ++ ms) → (a ≡ b) × (take n ls ≡ take n ms)
-frame_cancel a b n ls ms e = (third_line a b (ap (λ xs. get_or xs 2 []) e), ap (λ xs. drop 6 xs) e)
+frame_cancel a b n ls ms e = (same_frame b a (ap (λ xs. get_or xs 2 []) e), ap (λ xs. drop 6 xs) e)
 
 frame_same : (over : Bool) (n : ℕ) (ls ms : List (List ℕ)) → take n ls ≡ take n ms → take (six n) (frame over ++ ls) ≡ take (six n) (frame over ++ ms)
 frame_same over n ls ms e = ap (λ xs. frame over ++ xs) e

@@ -1,5 +1,5 @@
 -- An access whose timeout the third line names.
-use Rattle.std.proofs.Common.{◌≡◌, ℕ, ◌+◌, List, [], ◌∷◌, ◌++◌, Bool, true, false, ◌||◌, not, refl, sym, ap, ◌∙◌}
+use Rattle.std.proofs.Common.{◌≡◌, ℕ, List, [], ◌∷◌, ◌++◌, Bool, true, false, ◌||◌, not, refl, sym, ap, ◌∙◌}
 use Rattle.reg_machine.specs.declared.op.Op.{Op}
 use Rattle.c_print.specs.Text.{op_line, is_over_op, awaits_over}
 use Rattle.c_print.specs.Reading.{FitsLine}

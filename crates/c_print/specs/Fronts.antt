@@ -1,4 +1,4 @@
--- What a text begins with.
+-- Internal: what a text begins with.
 use Rattle.std.specs.Prelude.{◌≡◌, ◌≢◌, ℕ, ◌≤◌, ◌<◌, ◌^◌, List, [], ◌++◌, map, length, take, get_or, Bool, false}
 use Rattle.std.specs.List.{concat}
 use Rattle.res_base.specs.Lists.{Each}

@@ -1,3 +1,4 @@
+//! Why a text is refused.
 use res_base::OutOfMemory;
 use std::alloc::{AllocError, AllocFailed};
 

@@ -1,3 +1,4 @@
+//! The texts of which a C function is made.
 ghost use Rattle.std.specs.Prelude.{◌≡◌, ◌<◌, [], get_or};
 ghost use Rattle.std.specs.List.{list_any};
 ghost use Rattle.c_print.specs.Text.{part_text, await_end, is_over, is_over_op, awaits_over, answers_part, frame};

@@ -1,3 +1,4 @@
+//! A list of accesses, from its C text.
 ghost use Rattle.std.specs.Prelude.{◌≡◌, ◌+◌, ◌<◌, ◌≤◌, ◌^◌, ◌++◌, ◌||◌, not, map, length, IfOk, IfErr};
 ghost use Rattle.std.specs.List.{concat};
 ghost use Rattle.c_print.specs.Text.{op_line, awaits_over, frame};

@@ -1,3 +1,4 @@
+//! The C text of a list of accesses.
 ghost use Rattle.std.specs.Prelude.{◌≡◌, ◌++◌, ◌<◌, ◌^◌, map, OnOk, IfOk};
 ghost use Rattle.std.specs.List.{concat};
 ghost use Rattle.res_base.specs.Lists.{Each};

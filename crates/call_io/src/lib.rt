@@ -6,6 +6,3 @@ mod write;
 
 pub use inputs::{Gathered, gather};
 pub use write::write_answer;
-
-#[cfg(test)]
-mod tests;

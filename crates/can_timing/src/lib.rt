@@ -22,6 +22,3 @@ pub use laws::{
 pub use register::btr;
 pub use request::Request;
 pub use timing::{Timing, timing_of};
-
-#[cfg(test)]
-mod tests;

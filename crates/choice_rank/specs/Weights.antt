@@ -1,4 +1,4 @@
--- What a shape keeps beside its variables, so that ranks take no product of sizes anew.
+-- Internal: what a shape keeps beside its variables, so that ranks take no product of sizes anew.
 use Rattle.std.specs.Prelude.{ℕ, List, [], ◌∷◌}
 use Rattle.choice_rank.specs.declared.variable.VarShape.{VarShape}
 use Rattle.choice_rank.specs.Choices.{choices_of}

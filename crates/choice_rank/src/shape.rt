@@ -1,3 +1,4 @@
+//! Shapes: the ranks of their choices, and the choice of a rank.
 ghost use Rattle.std.specs.Prelude.{◌≡◌, ◌%◌, ◌≤◌, ◌↔◌, IsTrue, length, IfOk, IfErr, OnOk};
 ghost use Rattle.choice_rank.specs.Choices.{IsChoice, IsNarrow, IsShape, HasPositions, HasSmallSizes, choices_of, cost_of, index_of, rank_of};
 ghost use Rattle.choice_rank.specs.Faults.{IsShapeFault};
@@ -144,6 +145,3 @@ impl Shape {
         self.rank(at) == rank
     }
 }
-
-#[cfg(test)]
-mod tests;

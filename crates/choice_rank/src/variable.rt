@@ -1,3 +1,4 @@
+//! A variable of a shape, and what its positions cost.
 ghost use Rattle.choice_rank.specs.Choices.{cost_at, cost_most};
 ghost use Rattle.std.specs.Prelude.{◌≡◌};
 

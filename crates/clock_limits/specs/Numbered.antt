@@ -1,4 +1,4 @@
--- Limits from their tests in order.
+-- Internal: limits from their tests in order.
 use Rattle.std.specs.Prelude.{ℕ, ◌+◌, Bool, true, List, [], ◌∷◌, Option, Some, None}
 use Rattle.res_base.specs.Fraction.{Fraction, at_most, whole}
 use Rattle.res_model.specs.Limits.{are_within, is_equal, mhz_48}

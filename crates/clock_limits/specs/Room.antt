@@ -1,4 +1,4 @@
--- The room that ranges leave for each limit.
+-- Internal: the room that ranges leave for each limit.
 use Rattle.std.specs.Prelude.{ℕ, Bool, List, [], ◌∷◌}
 use Rattle.std.specs.List.{list_any}
 use Rattle.res_base.specs.Fraction.{at_most, whole}

@@ -1,4 +1,4 @@
--- What borrowed runs of values say.
+-- Internal: what borrowed runs of values say.
 use Rattle.clock_limits.specs.Ranges.{Allowed}
 use Rattle.clock_limits.specs.declared.runs.Runs.{Runs}
 

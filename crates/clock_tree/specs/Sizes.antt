@@ -1,4 +1,4 @@
--- How large the parts of a node are.
+-- Internal: how large the parts of a node are.
 use Rattle.std.specs.Prelude.{ℕ, ◌≤◌}
 use Rattle.res_base.specs.Fraction.{Fraction}
 

@@ -214,6 +214,3 @@ pub fn tree_text(
     out.push_str(supply.as_str())?;
     Ok(out.into_bytes())
 }
-
-#[cfg(test)]
-mod tests;

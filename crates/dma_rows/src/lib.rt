@@ -1,5 +1,7 @@
-//! Tests alone: requests of a table, what is due for them, and their refutations.
+//! Tests alone: which fault of a table's requests comes first, requests of a table, what is due for them, and their refutations.
 #![tactic(auto)]
 
 #[cfg(test)]
 mod rows;
+#[cfg(test)]
+mod tables;

@@ -1,4 +1,4 @@
--- When room fits a judge.
+-- Internal: when room fits a judge.
 use Rattle.std.specs.Prelude.{◌≡◌, List, length}
 use Rattle.dma_model.specs.declared.table.DmaRequest.{DmaRequest}
 use Rattle.dma_rules.specs.declared.judge.DmaRoom.{DmaRoom}

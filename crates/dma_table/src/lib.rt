@@ -6,6 +6,3 @@ mod read;
 
 pub use mcu_tables::TableFault;
 pub use read::read_dma;
-
-#[cfg(test)]
-mod tests;

@@ -24,6 +24,3 @@ pub use op::{I2sOp, I2sStep};
 pub use search::best_i2s;
 pub use state::State;
 pub use writes::i2s_writes;
-
-#[cfg(test)]
-mod tests;

@@ -1,7 +1,9 @@
-//! Sample rates over a whole table, and runs of their writes on the machine. It has tests alone.
+//! Tests alone: sample rates over a whole table, runs of their writes on the machine, and what it forbids.
 #![tactic(auto)]
 
 #[cfg(test)]
 mod asked;
+#[cfg(test)]
+mod rules;
 #[cfg(test)]
 mod tests;

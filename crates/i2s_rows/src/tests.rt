@@ -1,3 +1,4 @@
+//! Answers for a sample rate, and runs of their writes.
 use crate::asked::{answered, ran, writes};
 use i2s_pll::{I2sOp, I2sStep};
 use std::test::Fail;

@@ -26,7 +26,7 @@ use Rattle.init_gen.proofs.Fitting.{CodesFit, TakesReset, HsiFits, TakesNow, Fie
 use Rattle.init_gen.proofs.LateLemmas.{at, flags_all, flags_to, first_row, legal_hsi, late_sound, Stays, same_if, below, not_below, comes_to, none_comes, off_stays, on_stays}
 
 -- the words of PWR_CR for scale 1 and for scale 2: VOS alone, with ODEN, and with ODSWEN too
-pub word0 : Bool → ℕ
+unfoldable pub word0 : Bool → ℕ
 word0 b = cond b 49152 32768
 
 word1 : Bool → ℕ

@@ -17,7 +17,7 @@ use Rattle.reg_machine.specs.Words.{is_whole}
 use Rattle.reg_machine.specs.Step.{flags, act}
 use Rattle.reg_machine.specs.Run.{after, Sound}
 use Rattle.init_gen.specs.PinWrites.{wanted, AreWhole, gpio_section}
-use Rattle.res_base.specs.Fraction.{Fraction, whole, times, over}
+use Rattle.res_base.specs.Fraction.{Fraction, times, over}
 use Rattle.res_model.specs.Clock.{output}
 use Rattle.res_model.specs.Limits.{AreWithin}
 use Rattle.res_model.specs.ClockValues.{has_over, known_steps, scale_of_step}

@@ -10,6 +10,3 @@ mod writes;
 pub use setting::{Codes, Oscillator, Setting, Setup};
 pub use wants::target;
 pub use writes::generate;
-
-#[cfg(test)]
-mod tests;

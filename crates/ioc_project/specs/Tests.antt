@@ -1,4 +1,4 @@
--- A test among several.
+-- Internal: a test among several.
 use Rattle.std.specs.Prelude.{ℕ, zero, suc, Bool, true, List, [], ◌∷◌}
 
 -- a value passes the test at this place

@@ -1,4 +1,4 @@
--- What borrowed lines and signals say.
+-- Internal: what borrowed lines and signals say.
 use Rattle.std.specs.Prelude.{ℕ, List, map, Option, Some, None}
 use Rattle.std.specs.Borrow.{Bor}
 use Rattle.ioc_text.specs.declared.line.Line.{Line}

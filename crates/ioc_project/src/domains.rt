@@ -1,3 +1,4 @@
+//! Whether fixed homes of the clock variables are values that the table allows.
 ghost use Rattle.std.specs.Prelude.{◌≡◌, ◌<◌, length};
 ghost use Rattle.ioc_project.specs.Project.{is_among, is_within, domain_tests, all_within, in_domains, fixes_clock, fixes_signals};
 ghost use Rattle.ioc_project.specs.ProjectFaults.{Tells};

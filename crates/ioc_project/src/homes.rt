@@ -1,3 +1,4 @@
+//! The homes of the clock variables, and the frequency of the HSE.
 ghost use Rattle.std.specs.Prelude.{◌≡◌, ◌<◌, [], codes};
 ghost use Rattle.ioc_text.specs.Lines.{line_at};
 ghost use Rattle.ioc_project.specs.Project.{number_after, default_home, home_of, m_home, n_home, q_home, p_home, src_home, psrc_home, hpre_home, ppre1_home, ppre2_home, hse_of, homes_of};

@@ -1,3 +1,4 @@
+//! The marks of the pins that hold no place.
 ghost use Rattle.std.specs.Prelude.{◌≡◌, ◌++◌, ◌↔◌, codes, map, IfOk, IfSome, IsSome, IsTrue, is_some};
 ghost use Rattle.std.specs.List.{list_any};
 ghost use Rattle.std.specs.Str.{bytes_eq};

@@ -1,3 +1,4 @@
+//! The needs, which stand behind the signals.
 ghost use Rattle.std.specs.Prelude.{◌≡◌, ◌≤◌, ◌+◌, length, IfOk};
 ghost use Rattle.res_model.specs.Signals.{signal_named};
 ghost use Rattle.ioc_project.specs.Project.{capped, need_of, known_need, needs_from, few};

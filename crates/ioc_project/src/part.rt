@@ -1,3 +1,4 @@
+//! The part and the package, the number of pins, and whether all signals are kept.
 ghost use Rattle.std.specs.Prelude.{◌≡◌, false, codes};
 ghost use Rattle.std.specs.List.{list_any};
 ghost use Rattle.std.specs.Str.{bytes_eq};

@@ -1,3 +1,4 @@
+//! The lines of the pins, in the order of their numbers.
 ghost use Rattle.std.specs.Prelude.{◌≡◌, [], map, IfOk};
 ghost use Rattle.ioc_project.specs.Project.{numbered, pin_lines};
 ghost use Rattle.std.specs.BTreeMap.{values};

@@ -1,3 +1,4 @@
+//! A project, step by step.
 ghost use Rattle.std.specs.Prelude.{◌≤◌, length, IfOk};
 ghost use Rattle.ioc_project.specs.Read.{IsRead};
 ghost use Rattle.ioc_project.specs.Project.{project_of};

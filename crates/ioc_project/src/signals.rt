@@ -1,3 +1,4 @@
+//! The signals of the pins, with their homes.
 ghost use Rattle.std.specs.Prelude.{◌≡◌, ◌==◌, ◌++◌, ◌<◌, ◌≤◌, false, codes, length, map, find, position, IfOk, IfSome};
 ghost use Rattle.std.specs.List.{list_any, starts_with};
 ghost use Rattle.std.specs.Option.{option_copied};

@@ -1,3 +1,4 @@
+//! What the value of a key says.
 ghost use Rattle.std.specs.Prelude.{◌≡◌, false};
 ghost use Rattle.ioc_text.specs.Lines.{line_at};
 ghost use Rattle.res_model.specs.Numbers.{number_of, number_up_to};

@@ -1,3 +1,4 @@
+//! The `=` of a line, and escapes.
 ghost use Rattle.std.specs.Prelude.{◌≡◌, ◌<◌, false, length, IfSome, MatchResult, MatchBool, ⊤, if◌then◌else◌};
 ghost use Rattle.ioc_text.specs.Lines.{is_escapable, equals_at, undone};
 ghost use Rattle.std.specs.Prelude.{Some, None};

@@ -1,3 +1,4 @@
+//! The lines of a text, found by their keys.
 ghost use Rattle.std.specs.Prelude.{◌≡◌};
 ghost use Rattle.std.specs.Option.{option_copied};
 

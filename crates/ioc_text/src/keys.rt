@@ -1,3 +1,4 @@
+//! Which keys are named.
 ghost use Rattle.std.specs.Prelude.{◌≡◌, MatchOption};
 ghost use Rattle.ioc_text.specs.Lines.{is_named, is_single_key, is_clock_key, is_pin_key, pin_number};
 ghost use Rattle.res_model.specs.Numbers.{number_of};

@@ -1,3 +1,4 @@
+//! The first line of a text.
 ghost use Rattle.std.specs.Prelude.{◌≡◌, ◌==◌, ◌<◌, ◌≤◌, ◌+◌, ◌∷◌, length, position};
 ghost use Rattle.std.specs.Str.Lines.{lines, strip_carriage_return};
 

@@ -1,3 +1,4 @@
+//! The lines that have a named key, or the first that is faulty.
 ghost use Rattle.std.specs.Prelude.{◌≡◌, ◌+◌, ◌<◌, ◌^◌, [], ◌∷◌, Some, length};
 ghost use Rattle.ioc_text.specs.IocFaults.{Gives};
 ghost use Rattle.ioc_text.specs.Lines.{equals_at, is_quiet, divided, with_key, with_value, undone, line_of, ioc_of};

@@ -1,60 +1,19 @@
--- What is written is read: names, and values of clock variables.
-use Rattle.std.proofs.Common.{◌≡◌, ℕ, ◌<◌, ◌≤◌, ◌^◌, ◌==◌, List, [], ◌∷◌, ◌++◌, length, drop, Bool, true, false, Option, Some, refl, ap, ◌∙◌, inl, inr, arith}
-use Rattle.std.specs.Prelude.{◌||◌, codes, decimal, nat_eq, nat_le}
+-- What is written of a clock variable is read as its value.
+use Rattle.std.proofs.Common.{◌≡◌, ℕ, ◌<◌, ◌≤◌, ◌^◌, List, [], ◌∷◌, ◌++◌, length, drop, true, Some, refl, arith}
+use Rattle.std.specs.Prelude.{codes, decimal, nat_eq, nat_le}
 use Rattle.std.specs.List.{starts_with}
 use Rattle.std.proofs.lemmas.Bool.Decides.{nat_tests}
-use Rattle.res_base.proofs.SumLemmas.{bool_cases}
 use Rattle.res_model.proofs.NumberLaws.{number_is}
 use Rattle.res_model.specs.Clock.{IsInRange, IsOscillator}
 use Rattle.res_model.specs.Numbers.{number_up_to}
 use Rattle.res_model.specs.declared.clock.ClockChoice.{ClockChoice}
 use Rattle.res_model.specs.declared.clock.Src.{Src}
 use Rattle.res_model.specs.declared.clock.Src.TheVariants.{Hsi, Hse, Pll}
-use Rattle.ioc_text.specs.Lines.{after_bytes, is_escapable, undone, undone_from}
 use Rattle.ioc_project.specs.Project.{number_after, pll_source_of, system_source_of}
 use Rattle.ioc_write.specs.Back.{form_of, source_number, value_in}
-use Rattle.ioc_write.specs.Lines.{escaped, escaped_byte, is_special}
 use Rattle.ioc_write.specs.WriteBack.{source_text, spelled}
 use Rattle.ioc_write.specs.declared.variable.Variable.{Variable}
 use Rattle.ioc_write.specs.declared.variable.Variable.TheVariants as variable
-use Rattle.ioc_write.proofs.Names.{escaped_first}
-
--- ---- names
-
-or_more : (x a b c d e : Bool) → ((((a || b) || c) || d) || e) ≡ true → (((((x || a) || b) || c) || d) || e) ≡ true
-or_more true a b c d e h = refl
-or_more false a b c d e h = h
-
-first_false : (a b c d e : Bool) → ((((a || b) || c) || d) || e) ≡ false → a ≡ false
-first_false true b c d e h = h
-first_false false b c d e h = refl
-
-escapable : (b : ℕ) → is_special b ≡ true → is_escapable b ≡ true
-escapable b h = or_more (b == 32) (b == 92) (b == 58) (b == 61) (b == 35) (b == 33) h
-
-pub no_backslash : (b : ℕ) → is_special b ≡ false → (b == 92) ≡ false
-no_backslash b h = first_false (b == 92) (b == 58) (b == 61) (b == 35) (b == 33) h
-
-pub byte_read : (b : ℕ) (rest : List ℕ) → undone_from false (escaped_byte b ++ rest) ≡ after_bytes (b ∷ []) (undone_from false rest)
-unfolding undone_from
-byte_read b rest = elim (bool_cases (is_special b)) [
-  | inl e ↦ rw (e, escapable b e) refl
-  | inr e ↦ rw (e, no_backslash b e) refl
-]
-
-front_read : (b : ℕ) (o : Option (List ℕ)) (bs : List ℕ) → o ≡ Some bs → after_bytes (b ∷ []) o ≡ Some (b ∷ bs)
-front_read b o bs e = rw e refl
-
-all_read : (name : List ℕ) → undone_from false (escaped name) ≡ Some name
-unfolding undone_from escaped
-all_read [] = refl
-all_read (b ∷ bs) = ap (undone_from false) (escaped_first b bs) ∙ byte_read b (escaped bs) ∙ front_read b (undone_from false (escaped bs)) bs (all_read bs)
-
-pub name_read : (name : List ℕ) → undone (escaped name) ≡ Some name
-unfolding undone
-name_read name = all_read name
-
--- ---- clock variables
 
 number_read : (n : ℕ) → n ≤ 65535 → number_up_to 65535 (decimal n) ≡ Some n
 unfolding number_up_to

@@ -7,7 +7,7 @@ use Rattle.std.proofs.lemmas.Bool.Decides.{nat_tests}
 use Rattle.std.proofs.lemmas.Grind.{common_steps}
 use Rattle.std.proofs.lemmas.List.Splits.{slice_split_first}
 use Rattle.res_base.proofs.SumLemmas.{bool_cases}
-use Rattle.ioc_write.specs.Lines.{text_line, text_lines, lines_of_parts, unended, ended, ending}
+use Rattle.ioc_lines.specs.Lines.{text_line, text_lines, lines_of_parts, unended, ended, ending}
 
 found_place : (at length : ℕ) (i : ℕ) → cond (ltb at length) (Some at) None ≡ Some i → (at ≡ i) × (at < length)
 found_place at len i e = elim (bool_cases (ltb at len)) [

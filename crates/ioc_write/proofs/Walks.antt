@@ -7,7 +7,7 @@ use Rattle.res_model.specs.declared.table.Mode.TheVariants.{Held}
 use Rattle.res_model.specs.declared.table.PinUse.{PinUse}
 use Rattle.res_model.specs.declared.table.TableParts.{TableParts}
 use Rattle.ioc_write.specs.BackFaults.{Refuses}
-use Rattle.ioc_write.specs.Lines.{TextLine, keyed}
+use Rattle.ioc_lines.specs.Lines.{TextLine, keyed}
 use Rattle.ioc_write.specs.Survey.{above}
 use Rattle.ioc_write.specs.WriteBack.{needs_lines, needs_of, number_on, pin_entry, pin_name, pin_numbers, signal_entry}
 use Rattle.ioc_write.specs.declared.fault.BackFault.{BackFault}

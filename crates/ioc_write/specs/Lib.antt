@@ -1,6 +1,7 @@
 pub mod Back
 pub mod BackFaults
-pub mod Lines
 pub mod Plans
+pub mod Reading
+pub mod ReadsBack
 pub mod Survey
 pub mod WriteBack

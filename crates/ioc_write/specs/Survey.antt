@@ -1,6 +1,6 @@
 -- Internal: what the keys of a text say together.
 use Rattle.std.specs.Prelude.{◌≡◌, ℕ, ◌+◌, List, length, Option, Some, None}
-use Rattle.ioc_write.specs.Lines.{TextLine}
+use Rattle.ioc_lines.specs.Lines.{TextLine}
 use Rattle.ioc_write.specs.WriteBack.{next_number, pin_numbers, variables_on}
 use Rattle.ioc_write.specs.declared.survey.Survey.{Survey}
 

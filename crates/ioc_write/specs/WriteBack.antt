@@ -29,7 +29,7 @@ use Rattle.ioc_write.specs.declared.fault.BackFault.{BackFault}
 use Rattle.ioc_write.specs.declared.fault.BackFault.TheVariants.{NoNumber, LongLine}
 use Rattle.ioc_write.specs.declared.variable.Variable.{Variable}
 use Rattle.ioc_write.specs.declared.variable.Variable.TheVariants as variable
-use Rattle.ioc_write.specs.Lines.{TextLine, Keyed, keyed, text_lines, last_dot, pin_part, rest_from, escaped}
+use Rattle.ioc_lines.specs.Lines.{TextLine, Keyed, keyed, text_lines, pin_part, escaped, with_pin, with_value}
 
 -- ---- pins
 
@@ -172,14 +172,6 @@ unfoldable pub change_by : ProblemParts → List ℕ → List ℕ → List ℕ �
 change_by p at key value =
     if is_some (pin_number key) then named_by p at (undone value)
     else (if bytes_eq key (codes "Mcu.PinsNb") then change.Counted else change_of_key p at key (variable_of key))
-
--- what a line says with another value: all up to its = stays
-abbrev pub with_value : List ℕ → ℕ → List ℕ → List ℕ
-with_value says equals value = take (equals + 1) says ++ value
-
--- what a line says with another pin in its key: all from the key's last dot on stays
-unfoldable pub with_pin : List ℕ → ℕ → List ℕ → List ℕ
-with_pin says equals name = name ++ rest_from says (last_dot (take equals says))
 
 -- what a line says once it is changed, where the output has so many keys Mcu.Pin<k>
 abbrev pub said : ProblemParts → List ℕ → ℕ → List ℕ → ℕ → Change → List ℕ

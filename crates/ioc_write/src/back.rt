@@ -2,7 +2,7 @@
 ghost use Rattle.std.specs.Prelude.{◌≡◌, ◌≢◌, ◌≤◌, ◌<◌, ◌+◌, ◌^◌, ◌++◌, length, nat_le, IfOk, OnOk};
 ghost use Rattle.choice_rank.specs.Choices.{IsChoice};
 ghost use Rattle.ioc_write.specs.BackFaults.{Gives};
-ghost use Rattle.ioc_write.specs.Lines.{text_lines};
+ghost use Rattle.ioc_lines.specs.Lines.{text_lines};
 ghost use Rattle.ioc_write.specs.Plans.{IsPlan};
 ghost use Rattle.ioc_write.specs.Survey.{IsSurvey, above};
 ghost use Rattle.ioc_write.specs.WriteBack.{appended, ends_with_newline, followed_by, lines_back, needs_of, pins_written, uses_of, written_back};

@@ -2,7 +2,7 @@
 ghost use Rattle.std.specs.Prelude.{◌≡◌, ◌<◌, ◌++◌, false, length, IfSome, MatchResult, MatchBool, ⊤, if◌then◌else◌};
 ghost use Rattle.ioc_text.specs.Lines.{is_escapable, equals_at, undone};
 ghost use Rattle.std.specs.Prelude.{Some, None, OnOk};
-ghost use Rattle.ioc_write.specs.Lines.{is_special, escaped_byte, escaped};
+ghost use Rattle.ioc_lines.specs.Lines.{is_special, escaped_byte, escaped};
 
 use std::alloc::AllocError;
 
@@ -71,7 +71,7 @@ fn put_escaped_byte(out: &mut Vec<u8>, b: u8) -> Result<(), AllocError>
 }
 
 /// Appends a name with a backslash before each byte that needs one.
-#[tactic(auto, unfolding(crate::specs::Lines::escaped))]
+#[tactic(auto, unfolding(ioc_lines::specs::Lines::escaped))]
 pub(crate) fn put_escaped(out: &mut Vec<u8>, name: &[u8]) -> Result<(), AllocError>
     ensures { OnOk result (out.new.items ≡ out.old.items ++ escaped name.now) }
 {

@@ -1,7 +1,7 @@
 //! The key of a line, and the pin part of a key.
 ghost use Rattle.std.specs.Prelude.{◌≡◌, ◌==◌, ◌<◌, if◌then◌else◌, Some, None, IfOk, IfSome, length, option_map};
 ghost use Rattle.ioc_text.specs.Lines.{is_quiet};
-ghost use Rattle.ioc_write.specs.Lines.{Keyed, keyed, keyed_at, last_dot, pin_part, rest_from};
+ghost use Rattle.ioc_lines.specs.Lines.{Keyed, keyed, keyed_at, last_dot, pin_part, rest_from};
 
 use crate::escapes::{equals_at, undo_into};
 use res_base::OutOfMemory;
@@ -17,7 +17,7 @@ fn is_quiet(bytes: &[u8]) -> bool
 }
 
 /// The place of the `=` of a line with a key. The key, with escapes undone, is left in `key`.
-#[tactic(auto, unfolding(crate::specs::Lines::keyed))]
+#[tactic(auto, unfolding(ioc_lines::specs::Lines::keyed))]
 pub(crate) fn key_into(key: &mut Vec<u8>, bytes: &[u8]) -> Result<Option<usize>, OutOfMemory>
     ensures keyed { IfOk result (λ at. keyed bytes.now ≡ option_map (keyed_at key.new.items) at) }
     ensures within { IfOk result (λ at. IfSome at (λ k. k < length bytes.now)) }
@@ -55,7 +55,7 @@ pub(crate) fn last_dot(bytes: &[u8]) -> Option<usize>
 }
 
 /// What stands before the last dot of a key.
-#[tactic(auto, unfolding(crate::specs::Lines::pin_part))]
+#[tactic(auto, unfolding(ioc_lines::specs::Lines::pin_part))]
 pub(crate) fn pin_part(key: &[u8]) -> &[u8]
     ensures { result.now ≡ pin_part key.now }
 {

@@ -18,7 +18,4 @@ mod write;
 
 pub use back::write_back;
 pub use fault::BackFault;
-pub use laws::{
-    keys_get_their_new_pin, keys_stay_with_other_values, lines_are_the_text, names_are_read_back,
-    values_are_read_back,
-};
+pub use laws::{values_are_read_back, what_is_written_reads_back};

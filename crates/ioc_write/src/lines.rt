@@ -1,7 +1,7 @@
 //! The lines of a text, with their ends.
 ghost use Rattle.std.specs.Prelude.{◌≡◌, ◌==◌, ◌<◌, ◌∷◌, length, position};
 ghost use Rattle.std.specs.Str.Lines.{strip_carriage_return};
-ghost use Rattle.ioc_write.specs.Lines.{ending, text_line, text_lines};
+ghost use Rattle.ioc_lines.specs.Lines.{ending, text_line, text_lines};
 
 fn newline_at(text: &[u8]) -> Option<usize>
     ensures { result ≡ position (λ b. b == 10) text.now }

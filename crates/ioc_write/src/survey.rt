@@ -2,7 +2,7 @@
 ghost use Rattle.std.specs.Prelude.{◌≡◌, ◌<◌, ◌≤◌, ◌+◌, ◌^◌, ◌++◌, max, length, Some, IfOk, OnOk, IfSome};
 ghost use Rattle.std.specs.Option.{option_to_list};
 ghost use Rattle.ioc_text.specs.Lines.{pin_number};
-ghost use Rattle.ioc_write.specs.Lines.{keyed, text_lines};
+ghost use Rattle.ioc_lines.specs.Lines.{keyed, text_lines};
 ghost use Rattle.ioc_write.specs.Survey.{IsSurvey, above};
 ghost use Rattle.ioc_write.specs.WriteBack.{number_on, variable_on};
 

@@ -2,9 +2,9 @@
 ghost use Rattle.std.specs.Prelude.{◌≡◌, ◌<◌, ◌+◌, ◌++◌, ◌^◌, length, take, Ok, OnOk};
 ghost use Rattle.res_model.specs.Steps.{with_front};
 ghost use Rattle.ioc_write.specs.BackFaults.{Gives};
-ghost use Rattle.ioc_write.specs.Lines.{escaped, last_dot, rest_from, text_line, text_lines};
+ghost use Rattle.ioc_lines.specs.Lines.{escaped, last_dot, rest_from, text_line, text_lines, with_pin, with_value};
 ghost use Rattle.ioc_write.specs.Plans.{IsPlan};
-ghost use Rattle.ioc_write.specs.WriteBack.{limited, line_written, lines_written, said, with_pin, with_value, written};
+ghost use Rattle.ioc_write.specs.WriteBack.{limited, line_written, lines_written, said, written};
 
 use crate::change::{Change, change_by};
 use crate::escapes::put_escaped;
@@ -39,7 +39,7 @@ fn rest_of(says: &[u8], equals: usize) -> &[u8]
 }
 
 /// A line with another pin in its key.
-#[tactic(auto, unfolding(crate::specs::WriteBack::with_pin))]
+#[tactic(auto, unfolding(ioc_lines::specs::Lines::with_pin))]
 fn put_with_pin(
     out: &mut Vec<u8>,
     says: &[u8],

@@ -1,19 +1,18 @@
 -- What the names, the clock's domains and the limits of a table that is read keep.
-use Rattle.std.proofs.Common.{◌≡◌, ◌≢◌, ℕ, suc, ◌<◌, ◌≤◌, ◌+◌, ◌-◌, List, [], ◌∷◌, ◌++◌, length, Bool, true, false, not, ◌||◌, cond, eqb, Option, Some, None, Result, Ok, Err, inl, inr, refl, sym, ap, subst, arith, ◌∙◌, ltb-true, eqb-true}
-use Rattle.std.specs.Prelude.{◌==◌, nat_lt, codes, slice_get, option_map}
+use Rattle.std.proofs.Common.{◌≡◌, ◌≢◌, ℕ, suc, ◌<◌, ◌≤◌, ◌-◌, List, [], ◌∷◌, ◌++◌, length, Bool, true, false, not, ◌||◌, cond, eqb, Option, Some, None, Result, Ok, inl, inr, refl, sym, ap, subst, arith, ltb-true, eqb-true}
+use Rattle.std.specs.Prelude.{◌==◌, nat_lt, codes, slice_get}
 use Rattle.std.specs.List.{list_any}
 use Rattle.std.specs.Str.{bytes_eq}
 use Rattle.std.proofs.lemmas.Bool.{eq-eqb}
 use Rattle.std.proofs.lemmas.Grind.{common_steps}
 use Rattle.res_base.specs.Lists.{Each, Member, Pairwise}
-use Rattle.res_base.proofs.ListLemmas.{each_push, each_map}
-use Rattle.res_model.specs.Steps.{◌>>=◌}
+use Rattle.res_base.proofs.ListLemmas.{each_map}
 use Rattle.mcu_tables.specs.Json.{entries, inside, number}
 use Rattle.res_model.specs.ClockValues.{pll_dividers, ahb_dividers, apb_dividers, known_steps}
-use Rattle.mcu_tables.specs.Table.{below, due, must, need, member, nested, object, text, fresh, distinct_text, number_within, number_among, pair_within, entries_after, is_above_last, is_above, above, next_among, some_among, one_among, are_paired, steps, clock, limits, over_form, some_over, over, all_limits}
+use Rattle.mcu_tables.specs.Table.{below, due, member, nested, object, text, distinct_text, number_within, number_among, pair_within, entries_after, is_above_last, is_above, above, next_among, some_among, one_among, are_paired, steps, clock, limits, over_form, some_over, over, all_limits}
 use Rattle.res_model.specs.Valid.{IsText, IsRange, AreAmong, AreDomains}
 use Rattle.res_model.proofs.PlaceLaws.{differ}
-use Rattle.mcu_tables.proofs.TableLaws.{bound, reads, same_ok, due_some, must_holds, fresh_new, need_keeps, none_passes, text_keeps, number_keeps, among_keeps, pair_keeps, entries_keep, Kept, list_keeps}
+use Rattle.mcu_tables.proofs.TableLaws.{bound, reads, same_ok, must_holds, fresh_new, need_keeps, none_passes, text_keeps, number_keeps, among_keeps, pair_keeps, entries_keep}
 use Rattle.mcu_tables.proofs.PinLaws.{AreKept, one_more}
 use Rattle.serde_json.specs.Data.{Data}
 use Rattle.serde_json.specs.Find.{get}

@@ -1,31 +1,19 @@
 -- What the pins of a table that is read keep.
-use Rattle.std.proofs.Common.{◌≡◌, ◌≢◌, ℕ, ◌<◌, ◌≤◌, ◌+◌, ◌-◌, List, [], ◌∷◌, ◌++◌, length, map, Bool, true, false, not, Option, Some, None, Result, Ok, Err, refl, sym, ap, subst, arith, ◌⊎◌, inl, inr, ◌&&◌, ◌||◌, leb-true, ltb-true, eqb-true, ◌∙◌}
-use Rattle.std.specs.Prelude.{nat_le, nat_lt, ◌==◌, option_and_then, if◌then◌else◌, decimal, codes, position, IfSome, slice_get, slice_index, option_map}
-use Rattle.std.specs.List.{list_any, position_or_len}
-use Rattle.std.proofs.Common.{cond}
-use Rattle.std.proofs.lemmas.Bool.Decides.{nat_tests}
+use Rattle.std.proofs.Common.{◌≡◌, ℕ, ◌<◌, ◌≤◌, ◌-◌, List, [], ◌∷◌, ◌++◌, Bool, true, false, not, Option, Some, None, Ok, refl, sym, ap, subst, arith, ◌&&◌, leb-true, ◌∙◌}
+use Rattle.std.specs.Prelude.{nat_le, ◌==◌, option_and_then, if◌then◌else◌}
+use Rattle.std.specs.List.{list_any}
 use Rattle.std.specs.Str.{bytes_eq}
 use Rattle.std.proofs.lemmas.Grind.{common_steps}
-use Rattle.res_base.specs.Lists.{Each, Member, Pairwise}
+use Rattle.res_base.specs.Lists.{Each, Pairwise}
 use Rattle.res_base.proofs.ListLemmas.{each_push, each_map, pairs_push}
-use Rattle.res_model.specs.Steps.{◌>>=◌}
-use Rattle.mcu_tables.specs.Json.{word, number, two, entries, is_object}
-use Rattle.res_model.specs.PinNames.{pin_number, ten_and, is_digit, begins_with_digit, spot, place}
-use Rattle.mcu_tables.specs.Table.{below, due, must, fresh, text, list, is_same_pin, pin}
-use Rattle.res_model.specs.Valid.{IsText, IsOnPort, IsPin, AreTwoPins, ArePins, IsFunction, IsModeOf, HasRowsDue, AreRows, IsSignal, AreSignals}
+use Rattle.res_model.specs.PinNames.{pin_number, ten_and, is_digit, begins_with_digit, spot}
+use Rattle.mcu_tables.specs.Table.{due, text, list, is_same_pin, pin}
+use Rattle.res_model.specs.Valid.{IsPin, AreTwoPins, ArePins}
 use Rattle.res_model.proofs.PlaceLaws.{differ}
-use Rattle.mcu_tables.proofs.TableLaws.{bound, reads, same_ok, due_some, must_holds, fresh_new, need_keeps, may_keeps, both, neither, between, none_passes, text_keeps, number_keeps, entries_keep, Kept, list_keeps}
+use Rattle.mcu_tables.proofs.TableLaws.{bound, due_some, fresh_new, both, neither, between, none_passes, text_keeps, list_keeps}
 use Rattle.serde_json.specs.Data.{Data}
-use Rattle.serde_json.specs.Find.{get, as_str, as_bool}
-use Rattle.mcu_tables.specs.declared.fault.TableFault.{TableFault}
 use Rattle.mcu_tables.specs.declared.fault.TableFault.TheVariants.{BadField}
 use Rattle.res_model.specs.declared.table.Pin.{Pin}
-use Rattle.res_model.specs.declared.table.Role.{Role}
-use Rattle.res_model.specs.declared.table.Role.TheVariants as role
-use Rattle.res_model.specs.declared.table.Mode.{Mode}
-use Rattle.res_model.specs.declared.table.Mode.TheVariants as mode
-use Rattle.res_model.specs.declared.table.PinUse.{PinUse}
-use Rattle.res_model.specs.declared.table.TableSignal.{TableSignal}
 
 -- each keeps P, and any two keep R
 abbrev pub AreKept : {X : Type 0} → (X → Type 0) → (X → X → Type 0) → List X → Type 0

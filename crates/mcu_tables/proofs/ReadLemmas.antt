@@ -16,7 +16,6 @@ use Rattle.res_model.specs.declared.table.Bounds.{Bounds}
 use Rattle.res_model.specs.declared.table.Scale.{Scale}
 use Rattle.res_model.specs.declared.table.FlashRange.{FlashRange}
 use Rattle.res_model.specs.declared.table.Over.{Over}
-use Rattle.res_model.specs.declared.table.TableParts.{TableParts}
 
 pub step : {A B : Type 0} (r : Result A TableFault) (x : A) (f : A → Result B TableFault) → r ≡ Ok x → (r >>= f) ≡ f x
 step r x f e = ap (λ (q : Result _ TableFault). q >>= f) e

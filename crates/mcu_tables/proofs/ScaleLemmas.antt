@@ -1,5 +1,5 @@
 -- The power steps of a clock's list are small numbers.
-use Rattle.std.proofs.Common.{◌≡◌, ℕ, zero, suc, ◌<◌, List, [], ◌∷◌, length, Bool, true, false, cond, eqb, Result, Ok, sym, subst, arith}
+use Rattle.std.proofs.Common.{◌≡◌, ℕ, zero, suc, ◌<◌, List, [], ◌∷◌, length, Bool, true, false, cond, eqb, Ok, sym, subst, arith}
 use Rattle.std.specs.Prelude.{slice_index}
 use Rattle.res_base.specs.Lists.{Each, Member}
 use Rattle.res_base.proofs.ListLemmas.{each_in}

@@ -1,23 +1,21 @@
 -- What the signals and the IPs of a table that is read keep.
-use Rattle.std.proofs.Common.{◌≡◌, ◌≢◌, ℕ, ◌<◌, ◌≤◌, ◌+◌, List, [], ◌∷◌, ◌++◌, length, Bool, true, false, not, Option, Some, None, Result, Ok, Err, refl, sym, ap, subst, arith, ◌∙◌}
-use Rattle.std.specs.Prelude.{◌==◌, option_and_then, if◌then◌else◌, codes, position, IfSome}
+use Rattle.std.proofs.Common.{◌≡◌, ◌≢◌, ℕ, ◌<◌, ◌≤◌, List, [], ◌∷◌, ◌++◌, length, false, not, Option, Some, None, Ok, refl, subst, arith, ◌∙◌}
+use Rattle.std.specs.Prelude.{◌==◌, option_and_then, codes, IfSome}
 use Rattle.std.specs.List.{list_any}
 use Rattle.std.specs.Str.{bytes_eq}
 use Rattle.std.proofs.lemmas.Grind.{common_steps}
 use Rattle.std.proofs.lemmas.List.Quantifiers.{position-Some}
-use Rattle.res_base.specs.Lists.{Each, Member, Pairwise}
+use Rattle.res_base.specs.Lists.{Each}
 use Rattle.res_base.proofs.ListLemmas.{each_push, each_map}
-use Rattle.res_model.specs.Steps.{◌>>=◌}
-use Rattle.mcu_tables.specs.Json.{word, two, is_object}
+use Rattle.mcu_tables.specs.Json.{word, two}
 use Rattle.res_model.specs.PinNames.{place}
-use Rattle.mcu_tables.specs.Table.{below, due, must, fresh, need, may, member, optional, text, object, flag, number_within, list, any_text, use_form, pin_named, row, alt_row, pin_row, no_rows, rows, real_name, signal_name, some_text, signal, clock48_form, ip_name, ip}
-use Rattle.res_model.specs.Valid.{IsText, IsFunction, IsModeOf, HasRowsDue, AreRows, IsSignal, AreSignals, IsIp, AreIps}
+use Rattle.mcu_tables.specs.Table.{below, due, may, member, optional, text, object, flag, number_within, list, any_text, use_form, pin_named, row, alt_row, pin_row, no_rows, rows, real_name, signal_name, some_text, signal, clock48_form, ip_name, ip}
+use Rattle.res_model.specs.Valid.{IsText, IsModeOf, HasRowsDue, AreRows, IsSignal, AreSignals, IsIp, AreIps}
 use Rattle.res_model.proofs.PlaceLaws.{differ}
-use Rattle.mcu_tables.proofs.TableLaws.{bound, reads, same_ok, due_some, must_holds, fresh_new, need_keeps, may_keeps, none_passes, text_keeps, number_keeps, Kept, list_keeps}
+use Rattle.mcu_tables.proofs.TableLaws.{bound, same_ok, due_some, must_holds, fresh_new, need_keeps, may_keeps, none_passes, text_keeps, number_keeps, Kept, list_keeps}
 use Rattle.mcu_tables.proofs.PinLaws.{AreKept, one_more, not_true}
 use Rattle.serde_json.specs.Data.{Data}
 use Rattle.serde_json.specs.Find.{get}
-use Rattle.mcu_tables.specs.declared.fault.TableFault.{TableFault}
 use Rattle.mcu_tables.specs.declared.fault.TableFault.TheVariants.{BadField}
 use Rattle.res_model.specs.declared.table.Pin.{Pin}
 use Rattle.res_model.specs.declared.table.Role.{Role}

@@ -1,15 +1,13 @@
 -- What each part of a table that is read keeps.
-use Rattle.std.proofs.Common.{◌≡◌, ◌≢◌, ℕ, ◌<◌, ◌≤◌, ◌+◌, List, [], ◌∷◌, ◌++◌, length, map, Bool, true, false, not, Option, Some, None, Result, Ok, Err, refl, sym, ap, subst, arith, ◌⊎◌, inl, inr, ◌&&◌, ◌||◌, leb-true, ltb-true, eqb-true}
-use Rattle.std.specs.Prelude.{nat_le, nat_lt, ◌==◌, option_and_then, find, if◌then◌else◌, decimal}
+use Rattle.std.proofs.Common.{◌≡◌, ℕ, ◌≤◌, ◌+◌, List, [], ◌∷◌, ◌++◌, length, Bool, true, false, Option, Some, None, Result, Ok, Err, refl, ap, subst, arith, ◌⊎◌, inl, inr, ◌&&◌, ◌||◌, leb-true}
+use Rattle.std.specs.Prelude.{nat_le, ◌==◌, option_and_then, find, if◌then◌else◌, decimal}
 use Rattle.std.specs.List.{list_any, list_all}
-use Rattle.std.specs.Str.{bytes_eq}
 use Rattle.std.proofs.lemmas.Grind.{common_steps}
-use Rattle.std.proofs.lemmas.Slice.Eq.{bytes_eq-Decides}
-use Rattle.res_base.specs.Lists.{Each, Member, Pairwise}
-use Rattle.res_base.proofs.ListLemmas.{each_push, each_map, pairs_push}
+use Rattle.res_base.specs.Lists.{Each, Member}
+use Rattle.res_base.proofs.ListLemmas.{each_map}
 use Rattle.res_model.specs.Steps.{◌>>=◌}
 use Rattle.mcu_tables.specs.Json.{word, is_word, is_printing, number, two, entries}
-use Rattle.mcu_tables.specs.Table.{below, due, must, fresh, need, may, text, number_within, number_among, pair_within, counted, list, entries_after, any_text, distinct_text}
+use Rattle.mcu_tables.specs.Table.{below, due, must, fresh, need, may, text, number_within, number_among, pair_within, counted, list, entries_after}
 use Rattle.res_model.specs.Valid.{IsText, IsPrinting, IsRange}
 use Rattle.serde_json.specs.Data.{Data}
 use Rattle.serde_json.specs.Find.{as_str}

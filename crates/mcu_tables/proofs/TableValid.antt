@@ -1,17 +1,16 @@
 -- Every table that is read keeps every rule.
-use Rattle.std.proofs.Common.{◌≡◌, ◌≢◌, ℕ, ◌<◌, ◌≤◌, List, [], ◌∷◌, length, Bool, true, false, Option, Some, None, Result, Ok, Err, refl, sym, ap, subst, arith}
+use Rattle.std.proofs.Common.{◌≡◌, ◌≢◌, ℕ, ◌≤◌, List, [], ◌∷◌, length, Bool, true, false, Option, Some, None, Result, Ok, refl, subst, arith}
 use Rattle.std.specs.Prelude.{nat_lt, codes, slice_index, if◌then◌else◌}
 use Rattle.std.specs.List.{list_any}
 use Rattle.std.proofs.lemmas.Bool.Decides.{nat_tests}
-use Rattle.res_base.specs.Lists.{Each, Pairwise}
+use Rattle.res_base.specs.Lists.{Each}
 use Rattle.res_base.proofs.ListLemmas.{each_map}
-use Rattle.res_model.specs.Steps.{◌>>=◌}
 use Rattle.mcu_tables.specs.Json.{json_of}
 use Rattle.res_model.specs.ClockValues.{hsi}
 use Rattle.res_model.specs.Power.{over_speeds, plain_speeds, speeds_at}
-use Rattle.mcu_tables.specs.Table.{below, due, need, top, text, number_within, list, distinct_text, pin, signal, ip, clock, all_limits, scales, flash_range, defaults, is_low, reset_fault, unless_illegal, legal, hse_names, supply, table, tables_of}
-use Rattle.res_model.specs.Valid.{IsText, ArePins, AreSignals, AreIps, AreBounds, AreSpeeds, HasOver, IsScale, AreScales, IsFlashRange, AreFlash, IsValid}
-use Rattle.mcu_tables.proofs.TableLaws.{bound, reads, same_ok, need_keeps, none_passes, neither, text_keeps, number_keeps, Kept, list_keeps}
+use Rattle.mcu_tables.specs.Table.{below, due, top, text, number_within, list, distinct_text, pin, signal, ip, clock, all_limits, scales, flash_range, defaults, is_low, reset_fault, unless_illegal, legal, hse_names, supply, table, tables_of}
+use Rattle.res_model.specs.Valid.{IsText, ArePins, AreSignals, AreIps, AreBounds, AreSpeeds, HasOver, AreScales, IsFlashRange, AreFlash, IsValid}
+use Rattle.mcu_tables.proofs.TableLaws.{bound, same_ok, need_keeps, none_passes, neither, text_keeps, number_keeps, Kept, list_keeps}
 use Rattle.mcu_tables.proofs.PinLaws.{AreKept, pins_keep}
 use Rattle.mcu_tables.proofs.SignalLaws.{signals_keep, ips_keep}
 use Rattle.mcu_tables.proofs.ClockLaws.{DifferTexts, distinct_keeps, clock_keeps, AreRead, AreReadSpeeds, HasRead, all_limits_keep}

@@ -1,4 +1,4 @@
--- The places of faults, and how a path spells them.
+-- Internal: the places of faults, and how a path spells them.
 use Rattle.std.specs.Prelude.{◌≡◌, ℕ, List, [], codes, decimal, Result, Ok, Err}
 use Rattle.mcu_tables.specs.Table.{below}
 use Rattle.mcu_tables.specs.declared.fault.TableFault.{TableFault}

@@ -1,4 +1,4 @@
--- Which names were seen.
+-- Internal: which names were seen.
 use Rattle.std.specs.Prelude.{◌≡◌, ℕ, List, String}
 use Rattle.std.specs.BTreeMap.{BTreeMap, get_by_text}
 use Rattle.std.specs.List.{list_any}

@@ -1,3 +1,4 @@
+//! The domains of the clock variables.
 ghost use Rattle.std.specs.Prelude.{◌≡◌, ◌≤◌, ◌<◌, ◌==◌, List, [], ◌∷◌, codes, map, length, option_map, IfOk};
 ghost use Rattle.std.specs.List.{list_any};
 ghost use Rattle.res_model.specs.ClockValues.{pll_dividers, ahb_dividers, apb_dividers, known_steps};

@@ -1,3 +1,4 @@
+//! The homes of the clock variables, where a project gives none.
 ghost use Rattle.std.specs.Prelude.{◌≡◌, ◌≤◌, ◌<◌, List, [], ◌∷◌, codes, map, length, option_map, option_and_then, IfOk};
 ghost use Rattle.std.specs.Str.{bytes_eq};
 ghost use Rattle.mcu_tables.specs.Table.{nested, object_if_there, below, number_within, number_among, source_of, pll_source_of, source_form, pll_source_form, default_sources, default_factors, default_buses, defaults};

@@ -1,3 +1,4 @@
+//! The flash ranges of a table.
 ghost use Rattle.std.specs.Prelude.{◌≡◌, ◌≤◌, ◌<◌, ◌==◌, ◌-◌, List, [], ◌∷◌, Some, None, false, map, length, option_map, option_copied, option_and_then, slice_get, slice_index, IfOk, IfSome};
 ghost use Rattle.mcu_tables.specs.Table.{counted, list, entries_after, is_after, flash_from, flash_to, flash_range, scale, scales, number_within, above, flag, need};
 ghost use Rattle.serde_json.specs.View.{view};

@@ -1,3 +1,4 @@
+//! Values of a single form: a text, a flag, a number, a pair.
 ghost use Rattle.std.specs.Prelude.{◌≡◌, ◌≤◌, ◌<◌, ◌==◌, List, [], ◌∷◌, Some, map, length, option_map, find, IfOk, IfSome};
 ghost use Rattle.mcu_tables.specs.Json.{is_object};
 ghost use Rattle.mcu_tables.specs.Table.{text, flag, object, number_within, number_among, pair_within};

@@ -1,3 +1,4 @@
+//! A JSON value and its members.
 ghost use Rattle.std.specs.Prelude.{◌≡◌, ◌≤◌, List, [], ◌∷◌, Some, map, length, option_map, codes, IfSome};
 ghost use Rattle.std.specs.List.{list_all};
 ghost use Rattle.mcu_tables.specs.Json.{json_of, is_object, inside, entries, two, number, is_printing, is_word, word};

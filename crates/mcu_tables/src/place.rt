@@ -1,3 +1,4 @@
+//! Where a fault is in a table, and how its path is spelled.
 ghost use Rattle.std.specs.Prelude.{◌≡◌, ◌⊎◌, ◌++◌, [], ◌∷◌, decimal, IfOk, OnOk, string_bytes};
 ghost use Rattle.mcu_tables.specs.Table.{below};
 ghost use Rattle.mcu_tables.specs.Places.{spelling, path_of, spelled, fault_of};

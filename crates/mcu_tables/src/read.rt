@@ -1,3 +1,4 @@
+//! A table, path by path.
 ghost use Rattle.std.specs.Prelude.{◌≡◌, ◌≤◌, ◌<◌, ℕ, List, codes, length, slice_index, IfOk};
 ghost use Rattle.res_base.specs.Lists.{Each};
 ghost use Rattle.mcu_tables.specs.TableFaults.{Gives};

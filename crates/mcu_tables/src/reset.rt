@@ -1,3 +1,4 @@
+//! The limit that the state after reset would break.
 ghost use Rattle.std.specs.Prelude.{◌≡◌, ◌≤◌, ◌<◌, ◌||◌, List, [], ◌∷◌, length, nat_lt, slice_index};
 ghost use Rattle.std.specs.List.{list_any};
 ghost use Rattle.res_model.specs.ClockValues.{hsi};

@@ -1,3 +1,4 @@
+//! The rows of a signal: the pins that it can have.
 ghost use Rattle.std.specs.Prelude.{◌≡◌, ◌≤◌, ◌<◌, ◌==◌, List, [], ◌∷◌, Some, map, length, option_map, IfOk, IfSome};
 ghost use Rattle.std.specs.List.{list_any};
 ghost use Rattle.mcu_tables.specs.Table.{counted, list, entries_after, pin_named, row, alt_row, pin_row, no_rows, rows, may, need};

@@ -1,3 +1,4 @@
+//! The power steps of a table with their greatest HCLK.
 ghost use Rattle.std.specs.Prelude.{◌≡◌, ◌≤◌, ◌<◌, ℕ, List, [], ◌∷◌, map, length, slice_index};
 ghost use Rattle.res_model.specs.ClockValues.{widest_hclk};
 ghost use Rattle.mcu_tables.specs.Table.{counted, list, entries_after, scale, scales, number_within, need};

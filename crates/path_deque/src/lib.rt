@@ -4,6 +4,3 @@
 mod deque;
 
 pub use deque::{Owner, Tally, Thief};
-
-#[cfg(test)]
-mod tests;

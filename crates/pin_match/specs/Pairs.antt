@@ -1,4 +1,4 @@
--- An assignment in two tables.
+-- Internal: an assignment in two tables.
 use Rattle.std.specs.Prelude.{◌≡◌, ℕ, ◌≤◌, ◌<◌, Bool, true, List, Option, Some, None, length, slice_index_or, slice_set}
 use Rattle.pin_match.specs.declared.matching.Match.{Match}
 use Rattle.pin_match.specs.declared.walk.Walk.{Walk}

@@ -1,4 +1,4 @@
--- A search along alternating steps, under way.
+-- Internal: a search along alternating steps, under way.
 use Rattle.std.specs.Prelude.{◌≡◌, ℕ, ◌+◌, ◌≤◌, ◌<◌, ◌⊎◌, Bool, true, false, not, Option, Some, None, length, slice_index, slice_index_or, slice_set}
 use Rattle.res_base.specs.declared.var_set.VarSet.{VarSet}
 use Rattle.res_base.specs.VarSet.{in_set}

@@ -1,3 +1,4 @@
+//! The matcher: an assignment that goes from call to call.
 ghost use Rattle.std.specs.Prelude.{◌≡◌, ◌↔◌, ◌+◌, ◌≤◌, Ok, MatchBool, IsNone, IfSome, length};
 ghost use Rattle.pin_match.specs.Sets.{fits_in};
 ghost use Rattle.pin_match.specs.Pairs.{IsMatch, IsClosed, given_in};
@@ -109,6 +110,3 @@ pub(crate) fn reached_set(walk: &Walk, variables: usize) -> VarSet
     }
     out
 }
-
-#[cfg(test)]
-mod tests;

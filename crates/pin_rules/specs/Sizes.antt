@@ -1,4 +1,4 @@
--- How many values a signal has.
+-- Internal: how many values a signal has.
 use Rattle.std.specs.Prelude.{◌≤◌, ℕ, length}
 use Rattle.res_model.specs.declared.project.Signal.{Signal}
 use Rattle.res_model.specs.declared.table.TableParts.{TableParts}

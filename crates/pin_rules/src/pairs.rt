@@ -1,3 +1,4 @@
+//! Two uses that clash.
 ghost use Rattle.std.specs.Prelude.{◌≡◌, ◌↔◌, ℕ, List, true, false, length, IfSome, IfNone, IsTrue, AllPairs, slice_get};
 ghost use Rattle.std.specs.Option.{option_map_or};
 ghost use Rattle.res_model.specs.declared.table.TableParts.{TableParts};

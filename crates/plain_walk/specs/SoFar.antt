@@ -1,4 +1,4 @@
--- The lowest rank among the legal choices whose index is below a bound.
+-- Internal: the lowest rank among the legal choices whose index is below a bound.
 use Rattle.std.specs.Prelude.{◌≡◌, ◌≤◌, ◌<◌, ℕ, List, Bool, true, Option, Some, None, MatchOption, min, ⊤}
 use Rattle.choice_rank.specs.declared.variable.VarShape.{VarShape}
 use Rattle.choice_rank.specs.Choices.{IsChoice, index_of, rank_of}

@@ -1,3 +1,4 @@
+//! What tells which choices are legal.
 ghost use Rattle.std.specs.Prelude.{◌≡◌, ℕ, List, Bool, IfOk};
 
 use res_base::OutOfMemory;

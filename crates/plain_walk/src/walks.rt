@@ -1,3 +1,4 @@
+//! The walk over all choices.
 ghost use Rattle.std.specs.Prelude.{◌≡◌, ◌<◌, ◌+◌, length, IfOk};
 ghost use Rattle.choice_rank.specs.Choices.{choices_of};
 ghost use Rattle.choice_rank.specs.Least.{IsAnswer};

@@ -98,6 +98,3 @@ pub fn prefetch(t: &Tables, vdd: u32) -> bool
         Some(range) => range.prefetch,
     }
 }
-
-#[cfg(test)]
-mod tests;

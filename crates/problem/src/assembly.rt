@@ -1,3 +1,4 @@
+//! A problem, from a table, a project and options.
 ghost use Rattle.std.specs.Prelude.{◌≡◌, ◌≤◌, ◌<◌, ◌^◌, true, Ok, length, IfOk, IfErr, OnOk};
 ghost use Rattle.res_base.specs.Lists.{Each};
 ghost use Rattle.choice_rank.specs.Choices.{IsNarrow, HasPositions, HasSmallSizes};

@@ -1,3 +1,4 @@
+//! The plain data of a problem.
 ghost use Rattle.std.specs.Prelude.{◌≡◌, ◌<◌, Some, length};
 ghost use Rattle.choice_rank.specs.Choices.{IsChoice};
 

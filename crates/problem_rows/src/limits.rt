@@ -1,8 +1,10 @@
-//! The least limit that a clock choice breaks. Expected numbers are worked by hand.
+//! The least limit that a clock choice breaks, and wait states. Expected numbers are worked by hand.
 ghost use Rattle.res_model.specs.Clock.{AreFacts, IsInRange};
 
 use clock_limits::broken;
 use mcu_tables::{TableFault, Tables, read_tables};
+use power_flash::{least_wait, prefetch};
+use res_base::Ratio;
 use res_model::{ClockChoice, Facts, Src};
 use std::alloc::Global;
 use std::test::Fail;
@@ -191,5 +193,46 @@ fn the_hse_needs_its_input_only_where_it_is_used(rt: HostRuntime) -> Result<(), 
         ..RESET
     };
     assert_eq!(rt; limit(rt.alloc(), &QUIET, &used)?, Some(3));
+    Ok(())
+}
+
+/// The least wait states at 3.3 V for so many hertz.
+fn wait(alloc: Global, hertz: u32) -> Result<Option<u8>, Fail> {
+    let t = tables(alloc)?;
+    Ok(least_wait(&t, 3300, &Ratio::whole(u64::from(hertz))))
+}
+
+#[test]
+fn the_first_row_that_covers_gives_the_wait_states(rt: HostRuntime) -> Result<(), Fail> {
+    for (hertz, states) in [
+        (16_000_000, Some(0)),
+        (30_000_000, Some(0)),
+        (30_000_001, Some(1)),
+        (120_000_000, Some(3)),
+        (168_000_001, None),
+    ] {
+        assert_eq!(rt; wait(rt.alloc(), hertz)?, states, "at {hertz}");
+    }
+    Ok(())
+}
+
+/// Whether a supply voltage in millivolts is in a range. Both allow prefetch.
+fn is_in_range(alloc: Global, vdd: u32) -> Result<bool, Fail> {
+    let t = tables(alloc)?;
+    Ok(prefetch(&t, vdd))
+}
+
+#[test]
+fn both_ends_of_a_range_are_within_it(rt: HostRuntime) -> Result<(), Fail> {
+    for (vdd, within) in [
+        (1799, false),
+        (1800, true),
+        (2099, true),
+        (2100, false),
+        (3600, true),
+        (3601, false),
+    ] {
+        assert_eq!(rt; is_in_range(rt.alloc(), vdd)?, within, "at {vdd}");
+    }
     Ok(())
 }

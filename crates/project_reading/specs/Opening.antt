@@ -1,4 +1,4 @@
--- What was opened is what two texts say.
+-- Internal: what was opened is what two texts say.
 use Rattle.std.specs.Prelude.{◌≡◌, Bool, Result, Ok, Err}
 use Rattle.answers.specs.declared.answer.Answer.{Answer}
 use Rattle.ioc_project.specs.Read.{IsRead}

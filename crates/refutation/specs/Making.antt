@@ -1,4 +1,4 @@
--- A refutation under way.
+-- Internal: a refutation under way.
 use Rattle.std.specs.Prelude.{◌≡◌, ℕ, ◌+◌, ◌*◌, List, [], ◌∷◌, ◌++◌, reverse, Option, Some, None, IsSome, if◌then◌else◌}
 use Rattle.std.specs.Option.{option_map_or}
 use Rattle.res_base.specs.Lists.{Each}

@@ -1,3 +1,4 @@
+//! The plain data of a proof.
 use res_base::{Items, OutOfMemory};
 use search_api::Reason;
 use std::alloc::{AllocError, AllocFailed};

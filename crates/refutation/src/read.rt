@@ -1,3 +1,4 @@
+//! A proof, from its text.
 ghost use Rattle.std.specs.Prelude.{◌≡◌, ◌==◌, ℕ, ◌+◌, ◌<◌, ◌≤◌, ◌^◌, List, [], ◌∷◌, map, length, position, true, IfSome, IfNone, IfOk, IfErr, MatchOption, Some, None};
 ghost use Rattle.std.specs.Option.{option_map, option_copied};
 ghost use Rattle.res_base.specs.VarSet.{in_set, NoneFrom};

@@ -1,3 +1,4 @@
+//! The text of a proof.
 ghost use Rattle.std.specs.Prelude.{◌≡◌, ◌++◌, [], ◌∷◌, map, codes, decimal, OnOk, IfOk};
 ghost use Rattle.refutation.specs.Forms.{SplitForm, members, form_of, form_of_reason};
 ghost use Rattle.refutation.specs.Spelling.{class_text, spaced, form_text, forms_text, bound_text, spelling};

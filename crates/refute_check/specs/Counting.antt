@@ -1,4 +1,4 @@
--- What a set of variables has in a box, signal by signal.
+-- Internal: what a set of variables has in a box, signal by signal.
 use Rattle.std.specs.Prelude.{ℕ, ◌+◌, ◌==◌, ◌&&◌, ◌||◌, List, [], ◌∷◌, Bool, false, not}
 use Rattle.std.specs.List.{list_any}
 use Rattle.res_base.specs.declared.var_set.VarSet.{VarSet}

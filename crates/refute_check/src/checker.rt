@@ -1,3 +1,4 @@
+//! The checker of proofs of a whole problem.
 ghost use Rattle.std.specs.Prelude.{◌≡◌, ◌≢◌, ◌<◌, ◌^◌, length, IfOk, IfErr, OnOk};
 ghost use Rattle.choice_rank.specs.Least.{IsAnswer};
 ghost use Rattle.problem.specs.Meets.{meets};

@@ -1,3 +1,4 @@
+//! What refutes a box of a whole problem.
 ghost use Rattle.std.specs.Prelude.{◌≡◌, ◌≢◌};
 ghost use Rattle.box_split.specs.Boxes.{IsBox};
 ghost use Rattle.box_split.specs.BoxIn.{box_in};

@@ -1,3 +1,4 @@
+//! A field of a word.
 ghost use Rattle.std.specs.Prelude.{◌≡◌, ℕ, ◌+◌, ◌^◌, ◌<◌, ◌≤◌};
 ghost use Rattle.reg_map.specs.Fields.{field_of, with_field, IsField};
 

@@ -6,6 +6,3 @@ mod register;
 
 pub use field::{Field, field_get, field_set};
 pub use register::{GpioReg, Reg, addr, reg_at};
-
-#[cfg(test)]
-mod tests;

@@ -1,3 +1,4 @@
+//! Registers and their addresses.
 ghost use Rattle.std.specs.Prelude.{◌≡◌, ◌≢◌, ℕ, ◌+◌, ◌*◌, ◌<◌, IfSome, IfNone};
 ghost use Rattle.reg_map.specs.Registers.{address, offset, gpio_base, port_size, IsRegister, StandsAlone};
 ghost use Rattle.reg_map.specs.declared.register.Reg.{Reg};

@@ -1,4 +1,4 @@
--- A vector, as the logic holds it, for the clause on what a `&mut` lends.
+-- Internal: a vector, as the logic holds it, for the clause on what a `&mut` lends.
 use denote.RattleType.{RattleType}
 use Rattle.std.specs.contracts.alloc.Global as global
 use Rattle.std.specs.contracts.vec.Vec as vec

@@ -1,3 +1,4 @@
+//! Decimal numbers, from text and to text.
 ghost use Rattle.std.specs.Prelude.{◌≡◌, ◌≢◌, ◌++◌, ℕ, ◌<◌, ◌^◌, decimal, IfSome, IfNone, OnOk, OnErr};
 
 use crate::memory::OutOfMemory;

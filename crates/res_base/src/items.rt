@@ -1,3 +1,4 @@
+//! A vector that contracts see as a list.
 ghost use Rattle.std.specs.Prelude.{◌≡◌, [], ◌∷◌, ◌++◌, length, OnOk, OnErr};
 
 use crate::memory::OutOfMemory;

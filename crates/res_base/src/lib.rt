@@ -14,6 +14,3 @@ pub use memory::OutOfMemory;
 pub use ratio::Ratio;
 pub use text::{Text, put_line};
 pub use var_set::{VarSet, same_set};
-
-#[cfg(test)]
-mod tests;

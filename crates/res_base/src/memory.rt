@@ -1,3 +1,4 @@
+//! The want of memory.
 use std::alloc::{AllocError, AllocFailed};
 
 /// Memory ran out.

@@ -1,3 +1,4 @@
+//! Exact fractions.
 ghost use Rattle.std.specs.Prelude.{◌≡◌, ℕ, ◌*◌, ◌^◌, ◌<◌, ◌≤◌, ◌/◌, ◌↔◌, IsTrue};
 ghost use Rattle.res_base.specs.Fraction.{Equals, IsAtMost, at_most, whole, times, over};
 

@@ -1,3 +1,4 @@
+//! A string that contracts see as a list of bytes, and lines.
 ghost use Rattle.std.specs.Prelude.{◌≡◌, [], ◌∷◌, ◌++◌, decimal, IfOk, OnOk, OnErr, string_bytes};
 
 use crate::memory::OutOfMemory;

@@ -1,3 +1,4 @@
+//! A set of numbers below 192.
 ghost use Rattle.res_base.specs.declared.var_set.VarSet.{VarSet};
 ghost use Rattle.std.specs.Prelude.{◌≡◌, ℕ, ◌<◌, ◌≤◌, true, false, cond, slice_index_or, length, MatchOption};
 ghost use Rattle.std.proofs.Math.Dec.{eqb};

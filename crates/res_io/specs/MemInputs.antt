@@ -1,4 +1,4 @@
--- Inputs in memory, as their user sees them, and which of their calls fail.
+-- For tests: inputs in memory, as their user sees them, and which of their calls fail.
 use Rattle.std.specs.Prelude.{ℕ, ◌≡◌, ◌≢◌, Bool, ◌||◌, is_none, List}
 use Rattle.res_io.specs.Calls.{one_more, is_listed}
 use Rattle.res_io.specs.Files.{place_in, count_at}

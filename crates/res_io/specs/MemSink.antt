@@ -1,4 +1,4 @@
--- A sink in memory, as its user sees it, and what a put makes of it.
+-- For tests: a sink in memory, as its user sees it, and what a put makes of it.
 use Rattle.std.specs.Prelude.{ℕ, ◌-◌, min, Bool, ◌||◌, ◌==◌, List, ◌++◌, length, take, Result, Ok, Err, if◌then◌else◌}
 use Rattle.res_io.specs.Calls.{one_more, is_listed}
 use Rattle.res_io.specs.declared.sink.Failed.{Failed}

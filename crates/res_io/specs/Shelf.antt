@@ -1,4 +1,4 @@
--- Files in memory of which one may be open, as their user sees them.
+-- Internal: files in memory of which one may be open, as their user sees them.
 use Rattle.std.specs.Prelude.{ℕ, List, Option}
 use Rattle.res_io.specs.declared.memory.MemFile.{MemFile}
 

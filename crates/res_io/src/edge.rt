@@ -1,3 +1,4 @@
+//! Files and standard output of the process.
 ghost use Rattle.std.specs.Prelude.{◌≡◌, ◌≤◌, ◌<◌, ◌+◌, ◌-◌, ◌^◌, min, None, Some, IsSome, List, ℕ, IfOk, IfSome, OnOk, OnErr, IsErrOf, length, take};
 ghost use Rattle.std.specs.Io.KnownBytes.{Consumes, IsAtEnd, WriteAppends};
 ghost use Rattle.res_io.specs.Bytes.{IsWhole, file_of};

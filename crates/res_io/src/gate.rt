@@ -1,3 +1,5 @@
+//! What a worker passes before it judges a box.
+
 /// What a worker passes before it judges a box. Tests hold workers there; no clause speaks of it.
 pub trait Gate {
     /// Worker number `worker` comes to its box number `turn`, counted from 0.

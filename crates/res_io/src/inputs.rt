@@ -1,3 +1,4 @@
+//! Named inputs, and one of them read whole.
 ghost use Rattle.std.specs.Prelude.{◌≡◌, List, ℕ, Option, Some, None, ◌≤◌, ◌<◌, ◌+◌, ◌-◌, ◌^◌, min, length, take, IsSome, IfOk, IfSome, OnOk, OnErr, IsErrOf, vec_len};
 ghost use Rattle.std.specs.Io.KnownBytes.{Consumes, IsAtEnd};
 ghost use Rattle.res_io.specs.Causes.{Rose, NoneFell};

@@ -19,6 +19,3 @@ pub use mem_sink::MemSink;
 pub use memory::MemFile;
 pub use sink::{Failed, Sink, write_all};
 pub use sure::{SureInputs, SureSink};
-
-#[cfg(test)]
-mod tests;

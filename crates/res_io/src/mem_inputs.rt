@@ -1,3 +1,4 @@
+//! Inputs in memory of which some calls fail.
 ghost use Rattle.std.specs.Prelude.{◌≡◌, ◌≢◌, Option, Some, None, [], ℕ, ◌<◌, ◌≤◌, ◌+◌, ◌-◌, ◌^◌, ◌↔◌, true, false, min, take, drop, length, vec_len, slice_index, unwrap_or, IfOk, IfSome, OnOk, OnErr, IsErr, IsErrOf, IsSome, IsTrue};
 ghost use Rattle.res_io.specs.Calls.{one_more, is_listed};
 ghost use Rattle.res_io.specs.Causes.{Rose, NoneFell};

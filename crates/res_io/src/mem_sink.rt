@@ -1,3 +1,4 @@
+//! A sink in memory of which some puts fail.
 ghost use Rattle.std.specs.Prelude.{◌≡◌, [], ◌<◌, ◌≤◌, ◌+◌, length, vec_len, vec_capacity, IfOk, OnOk, OnErr, Some};
 ghost use Rattle.std.specs.Io.KnownBytes.{WriteAppends};
 ghost use Rattle.res_io.specs.Causes.{Rose};

@@ -1,3 +1,4 @@
+//! A file in memory.
 use res_base::{Items, Text};
 
 /// A file in memory.

@@ -1,3 +1,4 @@
+//! Files in memory of which one may be open.
 ghost use Rattle.std.specs.Prelude.{◌≡◌, ◌<◌, ◌+◌, ◌-◌, ◌^◌, min, Some, None, List, take, drop, length, option_and_then, IfSome, OnOk, OnErr};
 ghost use Rattle.res_io.specs.Files.{place_in, bytes_from};
 

@@ -1,3 +1,4 @@
+//! A sink, and a text written whole.
 ghost use Rattle.std.specs.Prelude.{◌≡◌, List, ℕ, Option, ◌≤◌, ◌<◌, length, take, IfOk, OnOk, OnErr, is_some};
 ghost use Rattle.std.specs.Io.KnownBytes.{Appends, WriteAppends};
 ghost use Rattle.res_io.specs.Causes.{Rose};

@@ -1,3 +1,4 @@
+//! Inputs and a sink that never fail.
 ghost use Rattle.std.specs.Prelude.{◌≡◌, ◌≢◌, ◌+◌, ◌-◌, ◌^◌, min, Some, None, [], take, drop, length, unwrap_or, OnOk, OnErr, IfOk};
 ghost use Rattle.res_io.specs.Files.{bytes_in};
 

@@ -1,3 +1,4 @@
+//! The plain data of the clock tree.
 use res_base::Ratio;
 
 /// A source of the system clock, or of the PLL, which does not feed itself.

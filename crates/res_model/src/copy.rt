@@ -1,3 +1,4 @@
+//! A copy of a table.
 ghost use Rattle.std.specs.Prelude.{◌≡◌, IfOk};
 
 use crate::table::{Domains, FlashRange, Ip, Pin, PinUse, Scale, TableParts, TableSignal};

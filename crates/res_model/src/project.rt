@@ -1,3 +1,4 @@
+//! The plain data of a project.
 use res_base::{Items, Text};
 
 /// A pin's pull resistor.

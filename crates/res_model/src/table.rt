@@ -1,3 +1,4 @@
+//! The plain data of a table, and its type, which keeps the table's rules.
 ghost use Rattle.std.specs.Prelude.{◌≡◌, ◌≢◌, ◌<◌, Some, length, slice_get, option_map, IfSome, IfNone, IfOk};
 ghost use Rattle.res_model.specs.PinNames.{place};
 

@@ -1,4 +1,4 @@
--- Paths with their boxes beside them.
+-- Internal: paths with their boxes beside them.
 use Rattle.std.specs.Prelude.{◌≡◌, ℕ, ◌+◌, ◌*◌, ◌-◌, List, [], ◌∷◌, ◌++◌, Some}
 use Rattle.std.specs.Option.{option_map_or}
 use Rattle.res_base.specs.Lists.{total}

@@ -1,3 +1,4 @@
+//! The plain data of what a search answers.
 use crate::verdict::Reason;
 use res_base::Items;
 

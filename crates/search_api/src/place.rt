@@ -1,3 +1,4 @@
+//! A path with its box beside it.
 ghost use Rattle.std.specs.Prelude.{◌≡◌, ℕ, ◌+◌, ◌*◌, Some, OnOk};
 ghost use Rattle.box_split.specs.BoxIn.{box_in};
 ghost use Rattle.box_split.specs.Paths.{split_from};

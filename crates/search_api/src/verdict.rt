@@ -1,3 +1,4 @@
+//! The plain data of a verdict.
 use res_base::VarSet;
 
 /// What signals compete for: pins, or the pin numbers of external interrupts.

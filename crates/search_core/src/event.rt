@@ -1,3 +1,5 @@
+//! The eight kinds of event.
+
 /// What a worker does next. Workers are numbered from 0.
 #[derive(Clone, Copy, Debug, PartialEq, Eq)]
 pub enum Event {

@@ -1,3 +1,4 @@
+//! The state of a search by several workers, between two events.
 ghost use Rattle.std.specs.Prelude.{◌≡◌, ◌≤◌, IfOk};
 ghost use Rattle.search_api.specs.Meaning.{Meaning};
 ghost use Rattle.search_core.specs.Events.{opening};

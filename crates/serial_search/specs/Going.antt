@@ -1,4 +1,4 @@
--- A search under way.
+-- Internal: a search under way.
 use Rattle.std.specs.Prelude.{◌≡◌, ℕ, ◌+◌, ◌<◌, List, Option, Some, None, if◌then◌else◌, nat_lt}
 use Rattle.std.specs.Option.{option_map_or}
 use Rattle.res_base.specs.Lists.{Each, Pairwise, total}

@@ -1,4 +1,4 @@
--- The meaning of the judge of the tests: the first position is at least a bound.
+-- For tests: a judge of the choices whose first position is at least a bound.
 use Rattle.std.specs.Prelude.{◌≡◌, ℕ, ◌≤◌, ◌<◌, List, [], ◌∷◌, Bool, true, false, nat_le, nat_lt, if◌then◌else◌}
 use Rattle.choice_rank.specs.declared.variable.VarShape.{VarShape}
 use Rattle.choice_rank.specs.Choices.{IsShape}

@@ -4,6 +4,3 @@
 mod walk;
 
 pub use walk::search;
-
-#[cfg(test)]
-mod tests;

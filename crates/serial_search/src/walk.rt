@@ -1,3 +1,4 @@
+//! One worker's search, depth first.
 ghost use Rattle.std.specs.Prelude.{◌≡◌, ℕ, ◌<◌, List, [], ◌∷◌, ◌++◌, OnOk, IfOk, IsErr};
 ghost use Rattle.choice_rank.specs.Least.{IsAnswer};
 ghost use Rattle.search_api.specs.declared.outcome.Closed.{Closed};

@@ -1,3 +1,4 @@
+//! The search by several workers, and its outcome.
 ghost use Rattle.std.specs.Prelude.{◌≡◌, ℕ, ◌≤◌, ◌++◌, IfOk, OnOk};
 ghost use Rattle.res_base.specs.Lists.{Each};
 ghost use Rattle.best_word.specs.declared.part.Part.TheVariants.{First};

@@ -1,4 +1,4 @@
--- Where paths go: those that came to a worker are closed, went on to others, or are still there.
+-- Internal: where paths go: those that came to a worker are closed, went on to others, or are still there.
 use Rattle.std.specs.Prelude.{◌≡◌, ℕ, ◌+◌, ◌*◌, List, Some}
 use Rattle.res_base.specs.Lists.{total}
 use Rattle.box_split.specs.Boxes.{Run}

@@ -1,4 +1,4 @@
--- What a worker keeps true with its ends of the deques.
+-- Internal: what a worker keeps true with its ends of the deques.
 use Rattle.std.specs.Prelude.{◌≡◌, ℕ, zero, suc, ◌+◌, List, [], ◌∷◌, map}
 use Rattle.std.proofs.Common.{Global}
 use Rattle.res_base.specs.Lists.{Each, total}

@@ -1,4 +1,4 @@
--- What a worker keeps true of the boxes that it closed and of the places that it holds.
+-- Internal: what a worker keeps true of the boxes that it closed and of the places that it holds.
 use Rattle.std.specs.Prelude.{◌≡◌, ℕ, ◌+◌, ◌*◌, ◌≤◌, ◌^◌, List, [], ◌∷◌, ◌++◌, length}
 use Rattle.res_base.specs.Lists.{Each, Member, Pairwise}
 use Rattle.choice_rank.specs.declared.variable.VarShape.{VarShape}

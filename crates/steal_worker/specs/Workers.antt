@@ -1,4 +1,4 @@
--- A worker before its search.
+-- Internal: a worker before its search.
 use Rattle.std.specs.Prelude.{◌≡◌, ℕ, []}
 use Rattle.best_word.specs.declared.part.Part.TheVariants.{Other}
 use Rattle.best_word.specs.declared.word.BestWord.{BestWord}

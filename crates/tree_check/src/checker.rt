@@ -1,3 +1,4 @@
+//! The checker of proofs over a refuter.
 ghost use Rattle.std.specs.Prelude.{◌≡◌, ◌<◌, ◌^◌, ◌∷◌, [], length, IfOk, IfErr, OnOk};
 ghost use Rattle.std.specs.List.{list_any};
 ghost use Rattle.choice_rank.specs.Least.{IsAnswer};

@@ -10,6 +10,3 @@ mod stack;
 pub use checker::check;
 pub use laws::{accepted_proof_answers, accepted_proof_has_no_fault, fault_is_the_first};
 pub use refuter::Refuter;
-
-#[cfg(test)]
-mod tests;

@@ -1,3 +1,4 @@
+//! What a refuter of boxes answers for.
 ghost use Rattle.std.specs.Prelude.{◌≡◌};
 ghost use Rattle.choice_rank.specs.Choices.{IsChoice};
 ghost use Rattle.box_split.specs.Boxes.{IsBox};

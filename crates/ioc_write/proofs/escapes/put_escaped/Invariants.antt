@@ -1,5 +1,5 @@
 use Rattle.std.proofs.Common.{◌≡◌, ◌++◌, drop}
-use Rattle.ioc_write.specs.Lines.{escaped}
+use Rattle.ioc_lines.specs.Lines.{escaped}
 use Rattle.ioc_write.proofs.escapes.put_escaped.Given as goal
 
 abbrev pub invariant-loop-b : goal.invariant-loop-b

@@ -1,6 +1,6 @@
 use Rattle.std.proofs.Common.{◌≡◌, ◌<◌, drop, length}
 use Rattle.std.specs.Prelude.{IfSome}
-use Rattle.ioc_write.specs.Lines.{last_dot}
+use Rattle.ioc_lines.specs.Lines.{last_dot}
 use Rattle.ioc_write.proofs.Names.{later}
 use Rattle.ioc_write.proofs.keys.last_dot.Given as goal
 

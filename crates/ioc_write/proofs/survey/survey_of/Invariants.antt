@@ -1,5 +1,5 @@
 use Rattle.std.proofs.Common.{◌≡◌, ◌+◌, ◌≤◌, ◌++◌, length, max}
-use Rattle.ioc_write.specs.Lines.{text_lines}
+use Rattle.ioc_lines.specs.Lines.{text_lines}
 use Rattle.ioc_write.specs.Survey.{above}
 use Rattle.ioc_write.specs.WriteBack.{next_number, pin_numbers, variables_on}
 use Rattle.ioc_write.proofs.survey.survey_of.Given as goal

@@ -1,6 +1,6 @@
 use Rattle.std.proofs.Common.{◌∙◌, ◌+◌, List, sym, ap, arith}
 use Rattle.res_model.specs.Steps.{with_front}
-use Rattle.ioc_write.specs.Lines.{TextLine, text_line, text_lines}
+use Rattle.ioc_lines.specs.Lines.{TextLine, text_line, text_lines}
 use Rattle.ioc_write.specs.WriteBack.{line_written, lines_written}
 use Rattle.ioc_write.proofs.Walks.{line_put}
 use Rattle.ioc_write.proofs.write.put_lines.Goals as goal

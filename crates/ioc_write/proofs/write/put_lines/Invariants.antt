@@ -1,6 +1,6 @@
 use Rattle.std.proofs.Common.{◌≡◌, ◌+◌, ◌≤◌, length}
 use Rattle.res_model.specs.Steps.{with_front}
-use Rattle.ioc_write.specs.Lines.{text_lines}
+use Rattle.ioc_lines.specs.Lines.{text_lines}
 use Rattle.ioc_write.specs.WriteBack.{lines_written}
 use Rattle.ioc_write.proofs.write.put_lines.Given as goal
 

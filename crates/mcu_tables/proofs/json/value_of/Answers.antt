@@ -1,4 +1,4 @@
-use Rattle.std.proofs.Common.{◌≡◌, ap, sym, ◌∙◌, Option}
+use Rattle.std.proofs.Common.{ap, sym, ◌∙◌, Option}
 use Rattle.serde_json.specs.Data.{Data}
 use Rattle.serde_json.specs.Read.{read}
 use Rattle.mcu_tables.specs.Table.{due}

@@ -1,4 +1,4 @@
-use Rattle.std.proofs.Common.{rules, ◌≡◌, sym, ap, subst, ◌∙◌, Result, Ok, Err}
+use Rattle.std.proofs.Common.{rules, ◌≡◌, sym, subst, ◌∙◌, Result, Err}
 use Rattle.serde_json.specs.View.{view}
 use Rattle.mcu_tables.specs.Table.{defaults}
 use Rattle.mcu_tables.specs.Places.{Reads}

@@ -1,4 +1,4 @@
-use Rattle.std.proofs.Common.{rules, List, [], map, sym, subst, ◌∙◌, arith}
+use Rattle.std.proofs.Common.{List, [], map, sym, subst, ◌∙◌}
 use Rattle.mcu_tables.specs.Table.{entries_after, signal}
 use Rattle.serde_json.specs.View.{view}
 use Rattle.res_model.specs.declared.table.TableSignal.{TableSignal}

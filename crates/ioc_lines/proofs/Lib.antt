@@ -1,0 +1,12 @@
+pub mod DivideLemmas
+pub mod EntryLemmas
+pub mod KeyLemmas
+pub mod LineLemmas
+pub mod LookupLemmas
+pub mod NameLemmas
+pub mod PartLemmas
+pub mod PlainLemmas
+pub mod ProjectLemmas
+pub mod SignalLemmas
+pub mod TextCuts
+pub mod TextLemmas

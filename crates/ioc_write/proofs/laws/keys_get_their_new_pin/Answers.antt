@@ -1,5 +1,0 @@
-use Rattle.ioc_write.proofs.PartLemmas.{pin_changes}
-use Rattle.ioc_write.proofs.laws.keys_get_their_new_pin.Goals as goal
-
-pub returns : goal.returns
-returns c = λ says name k dot h d some. pin_changes says k h dot d name some
