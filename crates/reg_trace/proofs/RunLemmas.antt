@@ -5,7 +5,7 @@ use Rattle.std.specs.List.{concat}
 use Rattle.std.proofs.lemmas.List.{append-nil}
 use Rattle.res_model.specs.declared.table.TableParts.{TableParts}
 use Rattle.reg_machine.specs.Legal.{is_legal}
-use Rattle.reg_machine.specs.Reset.{View, reset_of}
+use Rattle.reg_machine.specs.Reset.{View, fresh}
 use Rattle.reg_machine.specs.Run.{Config, Running, Done, TimedOut, Forbidden, after, config_at, next, silent}
 use Rattle.reg_machine.specs.Step.{step_of}
 use Rattle.reg_machine.specs.Tree.{src_of}
@@ -21,7 +21,7 @@ use Rattle.reg_machine.specs.declared.state.Target.{Target}
 use Rattle.reg_trace.specs.Lines.{OpWent, RunDone, TraceLine, done_text, end_text, line_text, text_of}
 use Rattle.reg_trace.specs.Reading.{most}
 use Rattle.reg_trace.specs.Trace.{Moment, fine_after, goes_on, is_fine, is_over, lines_from, moment, moments, number_after, register_of, step_lines, trace_lines, trace_of}
-use Rattle.reg_trace.specs.Turn.{IsSeen, IsTurn, seen_text, todo_after}
+use Rattle.reg_trace.specs.Turn.{IsSeen, IsTurn, run_lines, run_over, seen_text, todo_after}
 use Rattle.reg_trace.specs.declared.lines.Seen.{Seen}
 use Rattle.reg_trace.specs.declared.turn.Turn.{Turn}
 use Rattle.reg_trace.specs.declared.fault.TraceFault.{TraceFault}
@@ -249,29 +249,25 @@ turned t want before after op a b fine turn h e et ew =
 
 -- ---- from reset, and what is answered
 
-abbrev pub over_of : TableParts → Target → List Op → List Answer → Bool
-over_of t want ops answers = is_over (config_at most answers (Running ops (reset_of t want)))
+pub begins : (v : View) (ops : List Op) (answers : List Answer) (left : ℕ) (fine : Bool) (out : List ℕ) → fine ≡ is_legal v.table v.want v.state → left ≡ most → left ≡ 1000000
+    → Stands (is_legal v.table v.want) (run_over v ops answers) (out ++ text_of (run_lines v ops answers)) out 1 left fine ops answers v.state
+begins v ops answers left fine out ef el e = record {
+  text =
+      ap (λ (n : ℕ). out ++ text_of (lines_from (is_legal v.table v.want) 1 (is_legal v.table v.want v.state) (moments n answers (Running ops v.state)))) (sym el)
+      ∙ ap (λ (b : Bool). out ++ text_of (lines_from (is_legal v.table v.want) 1 b (moments left answers (Running ops v.state)))) (sym ef);
+  run = ap (λ (n : ℕ). is_over (config_at n answers (Running ops v.state))) (sym el);
+  small = omega (arith, e);
+}
 
-pub begins : (t : TableParts) (want : Target) (ops : List Op) (answers : List Answer) (out : List ℕ) (left : ℕ) (fine : Bool) (s : State) → s ≡ reset_of t want → out ≡ [] → fine ≡ is_legal t want s → left ≡ most → left ≡ 1000000
-    → Stands (is_legal t want) (over_of t want ops answers) (text_of (trace_lines t want ops answers)) out 1 left fine ops answers s
-unfolding trace_lines
-begins t want ops answers out left fine s es eo ef el e =
-    let fine_is : fine ≡ is_legal t want (reset_of t want) = ef ∙ ap (is_legal t want) es in
-    record {
-      text =
-          ap (λ (n : ℕ). text_of (lines_from (is_legal t want) 1 (is_legal t want (reset_of t want)) (moments n answers (Running ops (reset_of t want))))) (sym el)
-          ∙ ap (λ (u : State). text_of (lines_from (is_legal t want) 1 (is_legal t want (reset_of t want)) (moments left answers (Running ops u)))) (sym es)
-          ∙ ap (λ (b : Bool). text_of (lines_from (is_legal t want) 1 b (moments left answers (Running ops s)))) (sym fine_is)
-          ∙ ap (λ (o : List ℕ). o ++ text_of (lines_from (is_legal t want) 1 fine (moments left answers (Running ops s)))) (sym eo);
-      run = ap (λ (n : ℕ). is_over (config_at n answers (Running ops (reset_of t want)))) (sym el) ∙ ap (λ (u : State). is_over (config_at left answers (Running ops u))) (sym es);
-      small = omega (arith, e);
-    }
+-- what was appended to nothing
+pub told : (t : TableParts) (want : Target) (ops : List Op) (answers : List Answer) (v : View) (old new : List ℕ) → v ≡ fresh t want → old ≡ [] → run_over v ops answers ≡ true → new ≡ old ++ text_of (run_lines v ops answers) → trace_of t want ops answers ≡ Ok new
+unfolding trace_of trace_lines
+told t want ops answers v old new is none over text =
+    let lines : new ≡ text_of (run_lines (fresh t want) ops answers) = text ∙ ap (λ (o : List ℕ). o ++ text_of (run_lines v ops answers)) none ∙ ap (λ (u : View). text_of (run_lines u ops answers)) is in
+    let ended : run_over (fresh t want) ops answers ≡ true = ap (λ (u : View). run_over u ops answers) (sym is) ∙ over in
+    ap (λ (b : Bool). cond b (Ok (text_of (run_lines (fresh t want) ops answers))) (Err fault.Long)) ended ∙ ap Ok (sym lines)
 
-pub told : (t : TableParts) (want : Target) (ops : List Op) (answers : List Answer) (out : List ℕ) → Told (over_of t want ops answers) (text_of (trace_lines t want ops answers)) out → trace_of t want ops answers ≡ Ok out
-unfolding trace_of
-told t want ops answers out h =
-    ap (λ (b : Bool). cond b (Ok (text_of (trace_lines t want ops answers))) (Err fault.Long)) h.over_is ∙ ap Ok h.whole_is
-
-pub too_long : (t : TableParts) (want : Target) (ops : List Op) (answers : List Answer) → over_of t want ops answers ≡ false → trace_of t want ops answers ≡ Err fault.Long
-unfolding trace_of
-too_long t want ops answers e = ap (λ (b : Bool). cond b (Ok (text_of (trace_lines t want ops answers))) (Err fault.Long)) e
+pub too_long : (t : TableParts) (want : Target) (ops : List Op) (answers : List Answer) (v : View) → v ≡ fresh t want → run_over v ops answers ≡ false → trace_of t want ops answers ≡ Err fault.Long
+unfolding trace_of trace_lines
+too_long t want ops answers v is over =
+    ap (λ (b : Bool). cond b (Ok (text_of (run_lines (fresh t want) ops answers))) (Err fault.Long)) (ap (λ (u : View). run_over u ops answers) (sym is) ∙ over)

@@ -1,8 +1,9 @@
 -- Internal: one step of a run that is traced.
-use Rattle.std.specs.Prelude.{◌≡◌, ℕ, List, [], ◌∷◌, drop, Bool, ◌&&◌}
+use Rattle.std.specs.Prelude.{◌≡◌, ℕ, List, [], ◌∷◌, ◌++◌, drop, Bool, true, false, ◌&&◌, Result, Ok, Err}
 use Rattle.reg_map.specs.Registers.{address}
 use Rattle.reg_machine.specs.Legal.{is_legal}
 use Rattle.reg_machine.specs.Reset.{View}
+use Rattle.reg_machine.specs.Run.{Running, config_at}
 use Rattle.reg_machine.specs.Tree.{src_of}
 use Rattle.reg_machine.specs.Words.{word_of}
 use Rattle.reg_machine.specs.declared.op.Answer.{Answer}
@@ -12,8 +13,11 @@ use Rattle.reg_machine.specs.declared.op.Stepped.{Stepped}
 use Rattle.reg_machine.specs.declared.op.Stepped.TheVariants as stepped
 use Rattle.reg_machine.specs.declared.op.Timeout.{Timeout}
 use Rattle.reg_machine.specs.declared.state.State.{State}
-use Rattle.reg_trace.specs.Lines.{OpWent, RunForbidden, RunTimedOut, TraceLine, line_text}
-use Rattle.reg_trace.specs.Trace.{is_fine, moment, register_of}
+use Rattle.reg_trace.specs.Lines.{OpWent, RunForbidden, RunTimedOut, TraceLine, line_text, text_of}
+use Rattle.reg_trace.specs.Reading.{most}
+use Rattle.reg_trace.specs.Trace.{is_fine, is_over, lines_from, moment, moments, register_of, step_lines}
+use Rattle.reg_trace.specs.declared.fault.TraceFault.{TraceFault}
+use Rattle.reg_trace.specs.declared.fault.TraceFault.TheVariants as fault
 use Rattle.reg_trace.specs.declared.lines.Seen.{Seen}
 use Rattle.reg_trace.specs.declared.turn.Turn.{Turn}
 
@@ -61,3 +65,21 @@ legal_after stepped.Went flagged v = is_legal v.table v.want v.state
 legal_after stepped.Waiting flagged v = flagged
 legal_after (stepped.TimedOut name) flagged v = is_legal v.table v.want v.state
 legal_after (stepped.Forbidden rule) flagged v = is_legal v.table v.want v.state
+
+-- a machine took a step, and its line was appended
+pub record IsShown (before : View) (op : Op) (a : Answer) (number : ℕ) (fine : Bool) (after : View) (turn : Turn) (old new : List ℕ) : Type 0 where
+  pub turn_is : IsTurn before op a fine after turn
+  pub text : new ≡ old ++ text_of (step_lines number turn.fine op after.state turn.stepped)
+
+-- the lines of a run from a machine's state, and whether no step is left behind the most
+abbrev pub run_lines : View → List Op → List Answer → List TraceLine
+run_lines v ops answers = lines_from (is_legal v.table v.want) 1 (is_legal v.table v.want v.state) (moments most answers (Running ops v.state))
+
+abbrev pub run_over : View → List Op → List Answer → Bool
+run_over v ops answers = is_over (config_at most answers (Running ops v.state))
+
+-- a run was appended to a text, whole where it has no more steps than the most
+abbrev pub Traces : {X : Type 0} → View → List Op → List Answer → List ℕ → List ℕ → Result X TraceFault → Type 0
+Traces v ops answers old new (Ok x) = (run_over v ops answers ≡ true) × (new ≡ old ++ text_of (run_lines v ops answers))
+Traces v ops answers old new (Err fault.Long) = run_over v ops answers ≡ false
+Traces v ops answers old new (Err fault.Memory) = Unit {0}

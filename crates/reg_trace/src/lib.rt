@@ -13,6 +13,3 @@ mod turn;
 pub use fault::{AnswerFault, TraceFault};
 pub use reading::read_answers;
 pub use run::trace;
-
-#[cfg(test)]
-mod tests;

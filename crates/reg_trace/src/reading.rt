@@ -7,8 +7,8 @@ use crate::fault::AnswerFault;
 use crate::flags::flags_of;
 use reg_machine::Answer;
 use res_base::parse_dec;
-use text_lines::{ended_line, first_field};
 use std::alloc::{AllocError, Global};
+use text_lines::{ended_line, first_field};
 
 /// The most answers of a text, and the most steps of a run that is traced.
 #[tactic(auto, unfolding(crate::specs::Reading::most))]

@@ -1,16 +1,18 @@
 //! A run from reset, traced.
-ghost use Rattle.std.specs.Prelude.{◌≡◌, ◌<◌, ◌^◌, [], ◌∷◌, drop, get_or, length};
+ghost use Rattle.std.specs.Prelude.{◌≡◌, ◌<◌, ◌^◌, ◌∷◌, drop, get_or, length, IfOk};
 ghost use Rattle.res_base.specs.Lists.{Each};
 ghost use Rattle.reg_machine.specs.Run.{silent};
 ghost use Rattle.reg_machine.specs.Words.{IsOp};
 ghost use Rattle.reg_trace.specs.Trace.{Gives, trace_of};
+ghost use Rattle.reg_trace.specs.Turn.{IsShown, Traces};
 
 use crate::fault::TraceFault;
 use crate::flags::silent;
 use crate::lines::{put_done, put_step, seen_of};
 use crate::reading::most;
-use crate::turn::{fine_after, goes_on, number_after, take_turn, todo_after};
+use crate::turn::{Turn, fine_after, goes_on, number_after, take_turn, todo_after};
 use reg_machine::{Answer, Machine, Op, Target};
+use res_base::OutOfMemory;
 use res_model::Tables;
 use std::alloc::Global;
 
@@ -47,6 +49,60 @@ fn next_op(ops: &[Op]) -> Op
     ops[0]
 }
 
+/// One step, with its line if it has one.
+fn shown_turn(
+    alloc: Global,
+    m: &mut Machine,
+    op: &Op,
+    a: Answer,
+    number: u32,
+    fine: bool,
+    out: &mut Vec<u8>,
+) -> Result<Turn, OutOfMemory>
+    requires { IsOp op.now }
+    ensures { IfOk result (λ turn. IsShown m.old op.now a number fine m.new turn out.old.items out.new.items) }
+{
+    let turn = take_turn(m, op, a, fine);
+    let seen = seen_of(m, op);
+    put_step(alloc, out, number, seen, turn)?;
+    Ok(turn)
+}
+
+/// Appends what a run from a machine's state shows.
+fn put_run(
+    alloc: Global,
+    m: &mut Machine,
+    ops: &[Op],
+    answers: &[Answer],
+    out: &mut Vec<u8>,
+) -> Result<(), TraceFault>
+    requires { Each IsOp ops.now }
+    ensures { Traces m.old ops.now answers.now out.old.items out.new.items result }
+{
+    let mut fine = m.legal();
+    let mut todo = ops;
+    let mut coming = answers;
+    let mut number = 1u32;
+    let mut left = most();
+    'steps: while !todo.is_empty() {
+        if left == 0 {
+            return Err(TraceFault::Long);
+        }
+        let op = next_op(todo);
+        let turn = shown_turn(alloc, m, &op, next_answer(coming), number, fine, out)?;
+        if !goes_on(turn.stepped) {
+            return Ok(());
+        }
+        number = number_after(turn.stepped, number);
+        fine = fine_after(turn.stepped, turn.fine);
+        todo = todo_after(turn.stepped, todo);
+        coming = later_answers(coming);
+        left -= 1;
+    }
+    put_done(out, fine)?;
+    Ok(())
+}
+
 /// What a run from reset shows, for a list of flag answers: a line for each access that is done, with its number, its
 /// register's address and word, the source and the latency in effect, and whether each state since the line before is legal;
 /// and the line of how the run ended.
@@ -65,28 +121,6 @@ pub fn trace(
 {
     let mut machine = Machine::reset(alloc, t, want)?;
     let mut out = Vec::new(alloc);
-    let mut fine = machine.legal();
-    let mut todo = ops;
-    let mut coming = answers;
-    let mut number = 1u32;
-    let mut left = most();
-    'steps: while !todo.is_empty() {
-        if left == 0 {
-            return Err(TraceFault::Long);
-        }
-        let op = next_op(todo);
-        let step = take_turn(&mut machine, &op, next_answer(coming), fine);
-        let seen = seen_of(&machine, &op);
-        put_step(alloc, &mut out, number, seen, step)?;
-        if !goes_on(step.stepped) {
-            return Ok(out);
-        }
-        number = number_after(step.stepped, number);
-        fine = fine_after(step.stepped, step.fine);
-        todo = todo_after(step.stepped, todo);
-        coming = later_answers(coming);
-        left -= 1;
-    }
-    put_done(&mut out, fine)?;
+    put_run(alloc, &mut machine, ops, answers, &mut out)?;
     Ok(out)
 }

@@ -4,6 +4,3 @@
 mod lines;
 
 pub use lines::{ended_line, first_field, first_line};
-
-#[cfg(test)]
-mod tests;

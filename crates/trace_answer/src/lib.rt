@@ -5,6 +5,3 @@ mod answer;
 mod part;
 
 pub use answer::trace_answer;
-
-#[cfg(test)]
-mod tests;

@@ -1,5 +1,7 @@
 //! The rows.
 use crate::asked::traced;
+use reg_trace::{AnswerFault, read_answers};
+use text_lines::{ended_line, first_field, first_line};
 use std::alloc::Global;
 use std::test::Fail;
 
@@ -75,5 +77,42 @@ fn what_is_refused_is_told_by_its_line(rt: HostRuntime) -> Result<(), Fail> {
 fn what_is_forbidden_ends_the_run(rt: HostRuntime) -> Result<(), Fail> {
     let text = b"forbidden 3 legal\n";
     assert!(rt; is_told(rt.alloc(), false, crystal(), b"", 0, text.as_slice())?);
+    Ok(())
+}
+
+/// How many answers a text says, or the line at which it is refused.
+fn count(alloc: Global, text: &[u8]) -> Result<usize, u32> {
+    match read_answers(alloc, text) {
+        Ok(answers) => Ok(answers.len()),
+        Err(AnswerFault::Line { line }) => Err(line),
+        Err(AnswerFault::Memory) => Err(0),
+    }
+}
+
+#[test]
+fn answers_are_read_to_the_first_fault(rt: HostRuntime) -> Result<(), Fail> {
+    let alloc = rt.alloc();
+    assert_eq!(rt; count(alloc, b""), Ok(0));
+    assert_eq!(rt; count(alloc, b"10 hpls\n2 -\n"), Ok(12));
+    assert_eq!(rt; count(alloc, b"10 lh\n"), Err(1));
+    assert_eq!(rt; count(alloc, b"1 -\n0 h\n"), Err(2));
+    assert_eq!(rt; count(alloc, b"1 -\n01 h\n"), Err(2));
+    assert_eq!(rt; count(alloc, b"1 -\n1 h"), Err(2));
+    assert_eq!(rt; count(alloc, b"1000 -\n1000000 w\n"), Err(2));
+    assert_eq!(rt; count(alloc, b"1 \n"), Err(1));
+    assert_eq!(rt; count(alloc, b"\n"), Err(1));
+    Ok(())
+}
+
+#[test]
+fn a_text_is_cut_at_its_first_end(rt: HostRuntime) -> Result<(), Fail> {
+    let (line, ended, rest) = first_line(b"ab c\nd");
+    assert!(rt; ended);
+    assert_eq!(rt; line, b"ab c".as_slice());
+    assert_eq!(rt; rest, b"d".as_slice());
+    assert!(rt; ended_line(b"d").is_none());
+    let (field, others) = first_field(b"ab c");
+    assert_eq!(rt; field, b"ab".as_slice());
+    assert!(rt; others.is_some());
     Ok(())
 }
