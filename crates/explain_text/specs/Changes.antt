@@ -7,6 +7,7 @@ use Rattle.clock_tree.specs.ClockText.{source_word}
 use Rattle.problem.specs.ClockValues.{clock_at, nowhere, source_of}
 use Rattle.problem.specs.Meets.{use_of}
 use Rattle.problem.specs.declared.parts.ProblemParts.{ProblemParts}
+use Rattle.res_model.specs.ClockValues.{has_over, scale_of_step}
 use Rattle.res_model.specs.declared.clock.ClockChoice.{ClockChoice}
 use Rattle.res_model.specs.declared.clock.Src.{Src}
 use Rattle.res_model.specs.declared.project.Home.{Home}
@@ -25,9 +26,19 @@ change_line word home value = word ++ codes " changes from " ++ home ++ codes " 
 unfoldable pub source_change : List ℕ → ℕ → Src → List ℕ
 source_change word home source = if home == code_of source then [] else change_line word (source_word (source_of home)) (source_word source)
 
--- a divider, a factor or a scale
+-- a divider or a factor
 unfoldable pub number_change : List ℕ → ℕ → ℕ → List ℕ
 number_change word home value = if home == value then [] else change_line word (decimal home) (decimal value)
+
+-- a power step: its scale, and whether over-drive is on
+abbrev pub over_word : ℕ → List ℕ
+over_word step = if has_over step then codes " over" else []
+
+abbrev pub step_text : ℕ → List ℕ
+step_text step = decimal (scale_of_step step) ++ over_word step
+
+unfoldable pub step_change : ℕ → ℕ → List ℕ
+step_change home value = if home == value then [] else change_line (codes "voltage scale") (step_text home) (step_text value)
 
 -- the home of the clock variable of this number
 unfoldable pub home_value : List Home → ℕ → ℕ
@@ -50,7 +61,7 @@ unfoldable pub bus_changes : List Home → ClockChoice → List ℕ
 bus_changes homes c =
     number_change (codes "APB1 divider") (home_value homes 7) c.ppre1
     ++ number_change (codes "APB2 divider") (home_value homes 8) c.ppre2
-    ++ number_change (codes "voltage scale") (home_value homes 9) c.vos
+    ++ step_change (home_value homes 9) c.vos
 
 -- ---- signals
 

@@ -7,14 +7,14 @@ use Rattle.box_spans.specs.declared.ranges.NodeRanges.{NodeRanges}
 use Rattle.clock_limits.specs.Ranges.{values_at}
 use Rattle.problem.specs.declared.parts.ProblemParts.{ProblemParts}
 use Rattle.res_model.specs.Limits.{hse_bounds, mhz_48}
-use Rattle.res_model.specs.Power.{range_at, scale_limit}
+use Rattle.res_model.specs.Power.{range_at, scale_limit, speeds_at}
 use Rattle.res_model.specs.declared.clock.Facts.{Facts}
 use Rattle.res_model.specs.declared.clock.Range.{Range}
 use Rattle.res_model.specs.declared.table.FlashRange.{FlashRange}
 use Rattle.res_model.specs.declared.table.TableParts.{TableParts}
 use Rattle.explain_text.specs.Names.{hertz_text, range_text}
 
--- what is wrong where the limit of a number, 3 to 16, is not met
+-- what is wrong where the limit of a number, 3 to 17, is not met
 unfoldable pub limit_words : ℕ → List ℕ
 limit_words k =
     if k == 3 then codes "HSE can not be used"
@@ -30,7 +30,8 @@ limit_words k =
     else (if k == 13 then codes "no flash row for HCLK"
     else (if k == 14 then codes "HCLK not as wished"
     else (if k == 15 then codes "PCLK1 not as wished"
-    else codes "PCLK2 not as wished"))))))))))))
+    else (if k == 16 then codes "PCLK2 not as wished"
+    else codes "over-drive without the PLL")))))))))))))
 
 -- ---- forms of figures
 
@@ -68,11 +69,23 @@ no_signal t = codes "no signal " ++ t.hse_in
 unfoldable pub hse_figures : TableParts → Facts → List ℕ
 hse_figures t f = if f.osc_in then kind_word f.bypass ++ decimal f.hse_hz ++ bounds_text (hse_bounds t f) else no_signal t
 
--- ---- the voltage scale: the greatest HCLK under any of these
+-- ---- the power step: the greatest HCLK, SYSCLK, PCLK1 and PCLK2 at any of these
 
 abbrev pub scales_most : TableParts → List ℕ → ℕ
 scales_most t [] = 0
-scales_most t (vos ∷ scales) = max (hertz_or (scale_limit t vos)) (scales_most t scales)
+scales_most t (step ∷ steps) = max (hertz_or (scale_limit t step)) (scales_most t steps)
+
+abbrev pub sysclk_most : TableParts → List ℕ → ℕ
+sysclk_most t [] = 0
+sysclk_most t (step ∷ steps) = max (speeds_at t step).sysclk (sysclk_most t steps)
+
+abbrev pub pclk1_most : TableParts → List ℕ → ℕ
+pclk1_most t [] = 0
+pclk1_most t (step ∷ steps) = max (speeds_at t step).pclk1 (pclk1_most t steps)
+
+abbrev pub pclk2_most : TableParts → List ℕ → ℕ
+pclk2_most t [] = 0
+pclk2_most t (step ∷ steps) = max (speeds_at t step).pclk2 (pclk2_most t steps)
 
 -- ---- the flash: the last row of the range of the supply voltage
 
@@ -92,17 +105,17 @@ flash_from (Some range) vdd hclk = row_figures vdd hclk (last_row range)
 abbrev pub flash_figures : TableParts → ℕ → Fraction → List ℕ
 flash_figures t vdd hclk = flash_from (range_at t vdd) vdd hclk
 
--- ---- the figures of a limit, 3 to 16, where the nodes have these ranges and the voltage scale these values
+-- ---- the figures of a limit, 3 to 16, where the nodes have these ranges and there are these power steps. Limit 17 has none
 
 unfoldable pub figures_by : TableParts → Facts → List ℕ → NodeRanges → ℕ → List ℕ
-figures_by t f scales r k =
+figures_by t f steps r k =
     if k == 3 then hse_figures t f
     else (if k == 4 then possible_within r.vco_in t.limits.vco_in
     else (if k == 5 then possible_within r.vco t.limits.vco
-    else (if k == 6 then least_allowed r.sysclk.least t.limits.sysclk
-    else (if k == 7 then least_allowed r.hclk.least (scales_most t scales)
-    else (if k == 8 then least_allowed r.pclk1.least t.limits.pclk1
-    else (if k == 9 then least_allowed r.pclk2.least t.limits.pclk2
+    else (if k == 6 then least_allowed r.sysclk.least (sysclk_most t steps)
+    else (if k == 7 then least_allowed r.hclk.least (scales_most t steps)
+    else (if k == 8 then least_allowed r.pclk1.least (pclk1_most t steps)
+    else (if k == 9 then least_allowed r.pclk2.least (pclk2_most t steps)
     else (if k == 10 then possible r.clk48
     else (if k == 11 then least_allowed r.clk48.least mhz_48
     else (if k == 12 then greatest_needed r.hclk.most f.floor
@@ -115,5 +128,9 @@ figures_by t f scales r k =
 unfoldable pub figures : ProblemParts → ℕ → List ℕ
 figures p k = figures_by p.tables p.facts (values_at p.clock 9) (ranges_of p.facts p.clock) k
 
+-- the figures of a limit that has any, behind its words
+abbrev pub figures_part : ProblemParts → ℕ → List ℕ
+figures_part p k = if k == 17 then [] else codes ", " ++ figures p k
+
 unfoldable pub limit_line : ProblemParts → ℕ → List ℕ
-limit_line p k = codes "limit " ++ decimal k ++ codes ": " ++ limit_words k ++ codes ", " ++ figures p k ++ codes "\n"
+limit_line p k = codes "limit " ++ decimal k ++ codes ": " ++ limit_words k ++ figures_part p k ++ codes "\n"

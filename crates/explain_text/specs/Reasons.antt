@@ -71,9 +71,9 @@ boxes_line k boxes = if boxes == 0 then [] else codes "limit " ++ decimal k ++ c
 unfoldable pub limit_boxes : List Node → ℕ → List ℕ
 limit_boxes nodes i = boxes_line (i + 3) (count_by (is_by_limit (i + 3)) nodes)
 
--- the leaves that each limit from 3 to 16 refutes
+-- the leaves that each limit from 3 to 17 refutes
 unfoldable pub split_text : List Node → List ℕ
-split_text nodes = joined 14 (limit_boxes nodes)
+split_text nodes = joined 15 (limit_boxes nodes)
 
 -- ---- the root
 

@@ -3,7 +3,8 @@ ghost use Rattle.std.specs.Prelude.{◌≡◌, ◌<◌, ◌++◌, IfOk, OnOk, st
 ghost use Rattle.clock_limits.specs.Ranges.{code_of};
 ghost use Rattle.clock_tree.specs.ClockText.{source_word};
 ghost use Rattle.problem.specs.ClockValues.{source_of};
-ghost use Rattle.explain_text.specs.Changes.{bus_changes, change_line, home_value, number_change, pll_changes, source_change, source_changes};
+ghost use Rattle.explain_text.specs.Changes.{bus_changes, change_line, home_value, number_change, over_word, pll_changes, source_change, source_changes, step_change, step_text};
+ghost use Rattle.res_model.specs.ClockValues.{has_over, scale_of_step};
 
 use res_model::{ClockChoice, Home, Src};
 use std::alloc::{AllocError, Global};
@@ -78,6 +79,49 @@ fn number_change(alloc: Global, word: &str, home: u64, value: u64) -> Result<Str
     change_line(alloc, word, home.as_str(), value.as_str())
 }
 
+fn has_over(step: u64) -> bool
+    ensures { result ≡ has_over step }
+{
+    step == 4 || step == 5
+}
+
+fn scale_of_step(step: u64) -> u64
+    ensures { result ≡ scale_of_step step }
+{
+    match step {
+        4 => 1,
+        5 => 2,
+        _ => step,
+    }
+}
+
+fn over_word(step: u64) -> &'static str
+    ensures { result.now ≡ over_word step }
+{
+    if has_over(step) { " over" } else { "" }
+}
+
+/// A power step: its scale, and whether over-drive is on.
+fn step_text(alloc: Global, step: u64) -> Result<String, AllocError>
+    ensures { IfOk result (λ x. string_bytes x ≡ step_text step) }
+{
+    let mut text = scale_of_step(step).to_string(alloc)?;
+    text.push_str(over_word(step))?;
+    Ok(text)
+}
+
+#[tactic(auto, unfolding(crate::specs::Changes::step_change))]
+fn step_change(alloc: Global, home: u64, value: u64) -> Result<String, AllocError>
+    ensures { IfOk result (λ x. string_bytes x ≡ step_change home value) }
+{
+    if home == value {
+        return Ok(String::new(alloc));
+    }
+    let home = step_text(alloc, home)?;
+    let value = step_text(alloc, value)?;
+    change_line(alloc, "voltage scale", home.as_str(), value.as_str())
+}
+
 /// Appends what a number changes.
 fn put_change(
     alloc: Global,
@@ -89,6 +133,14 @@ fn put_change(
     ensures { OnOk result (string_bytes out.new ≡ string_bytes out.old ++ number_change word.now home value) }
 {
     let line = number_change(alloc, word, home, value)?;
+    out.push_str(line.as_str())
+}
+
+/// Appends what the power step changes.
+fn put_step(alloc: Global, out: &mut String, home: u64, value: u64) -> Result<(), AllocError>
+    ensures { OnOk result (string_bytes out.new ≡ string_bytes out.old ++ step_change home value) }
+{
+    let line = step_change(alloc, home, value)?;
     out.push_str(line.as_str())
 }
 
@@ -169,13 +221,7 @@ fn bus_changes(alloc: Global, homes: &[Home; 10], c: &ClockChoice) -> Result<Str
         home_value(homes, 8),
         u64::from(c.ppre2),
     )?;
-    put_change(
-        alloc,
-        &mut out,
-        "voltage scale",
-        home_value(homes, 9),
-        u64::from(c.vos),
-    )?;
+    put_step(alloc, &mut out, home_value(homes, 9), u64::from(c.vos))?;
     Ok(out)
 }
 

@@ -4,7 +4,9 @@ ghost use Rattle.res_model.specs.Limits.{hse_bounds};
 ghost use Rattle.explain_text.specs.Figures.{bounds_text, figures_by, flash_figures, greatest_needed, hse_figures, kind_word, least_allowed, no_range, no_signal, possible, possible_within, row_figures, wished};
 
 use crate::hertz::{hertz_text, put_number, range_text};
-use crate::power::{hertz_or, last_row, range_at, scales_most};
+use crate::power::{
+    hertz_or, last_row, pclk1_most, pclk2_most, range_at, scales_most, sysclk_most,
+};
 use box_spans::NodeRanges;
 use res_base::Ratio;
 use res_model::{Facts, Range, TableParts};
@@ -148,26 +150,26 @@ fn flash_figures(
     }
 }
 
-/// The figures of a limit, where the nodes have these ranges and the voltage scale these values.
+/// The figures of a limit, where the nodes have these ranges and there are these power steps.
 #[tactic(auto, unfolding(crate::specs::Figures::figures_by))]
 pub(crate) fn figures_by(
     alloc: Global,
     t: &TableParts,
     f: &Facts,
-    scales: &[u16],
+    steps: &[u16],
     r: &NodeRanges,
     limit: u8,
 ) -> Result<String, AllocError>
-    ensures { IfOk result (λ x. string_bytes x ≡ figures_by t.now f.now scales.now r.now limit) }
+    ensures { IfOk result (λ x. string_bytes x ≡ figures_by t.now f.now steps.now r.now limit) }
 {
     match limit {
         3 => hse_figures(alloc, t, f),
         4 => possible_within(alloc, &r.vco_in, t.limits.vco_in),
         5 => possible_within(alloc, &r.vco, t.limits.vco),
-        6 => least_allowed(alloc, &r.sysclk.least, t.limits.sysclk),
-        7 => least_allowed(alloc, &r.hclk.least, scales_most(t, scales)),
-        8 => least_allowed(alloc, &r.pclk1.least, t.limits.pclk1),
-        9 => least_allowed(alloc, &r.pclk2.least, t.limits.pclk2),
+        6 => least_allowed(alloc, &r.sysclk.least, sysclk_most(t, steps)),
+        7 => least_allowed(alloc, &r.hclk.least, scales_most(t, steps)),
+        8 => least_allowed(alloc, &r.pclk1.least, pclk1_most(t, steps)),
+        9 => least_allowed(alloc, &r.pclk2.least, pclk2_most(t, steps)),
         10 => possible(alloc, &r.clk48),
         11 => least_allowed(alloc, &r.clk48.least, MHZ_48),
         12 => greatest_needed(alloc, &r.hclk.most, f.floor),

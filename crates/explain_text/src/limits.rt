@@ -3,7 +3,7 @@ ghost use Rattle.std.specs.Prelude.{◌≡◌, ◌≢◌, ◌<◌, IfOk, string_
 ghost use Rattle.box_spans.specs.Every.{AreFilled};
 ghost use Rattle.clock_limits.specs.Ranges.{AreInRange, values_at};
 ghost use Rattle.res_model.specs.Clock.{AreFacts};
-ghost use Rattle.explain_text.specs.Figures.{figures, limit_line, limit_words};
+ghost use Rattle.explain_text.specs.Figures.{figures, figures_part, limit_line, limit_words};
 
 use crate::figures::figures_by;
 use crate::hertz::put_number;
@@ -31,7 +31,8 @@ pub(crate) fn limit_words(limit: u8) -> &'static str
         13 => "no flash row for HCLK",
         14 => "HCLK not as wished",
         15 => "PCLK1 not as wished",
-        _ => "PCLK2 not as wished",
+        16 => "PCLK2 not as wished",
+        _ => "over-drive without the PLL",
     }
 }
 
@@ -73,6 +74,20 @@ fn figures(alloc: Global, p: &Problem, limit: u8) -> Result<String, AllocError>
     )
 }
 
+/// The figures of a limit that has any, behind its words.
+fn figures_part(alloc: Global, p: &Problem, limit: u8) -> Result<String, AllocError>
+    requires { p.now.first ≢ 0 }
+    ensures { IfOk result (λ x. string_bytes x ≡ figures_part p.now limit) }
+{
+    if limit == 17 {
+        return Ok(String::new(alloc));
+    }
+    let mut text = String::from_str(alloc, ", ")?;
+    let figures = figures(alloc, p, limit)?;
+    text.push_str(figures.as_str())?;
+    Ok(text)
+}
+
 /// The line of a limit that nothing can meet: what it asks, and by how much it is missed.
 #[tactic(auto, unfolding(crate::specs::Figures::limit_line))]
 pub(crate) fn limit_line(alloc: Global, p: &Problem, limit: u8) -> Result<String, AllocError>
@@ -83,8 +98,7 @@ pub(crate) fn limit_line(alloc: Global, p: &Problem, limit: u8) -> Result<String
     put_number(alloc, &mut line, "limit ", u64::from(limit))?;
     line.push_str(": ")?;
     line.push_str(limit_words(limit))?;
-    line.push_str(", ")?;
-    let figures = figures(alloc, p, limit)?;
+    let figures = figures_part(alloc, p, limit)?;
     line.push_str(figures.as_str())?;
     line.push_str("\n")?;
     Ok(line)

@@ -1,22 +1,9 @@
-//! What voltage scales and flash rows allow at most.
+//! What power steps and flash rows allow at most.
 ghost use Rattle.std.specs.Prelude.{◌≡◌, option_copied};
 ghost use Rattle.res_model.specs.Power.{has_supply, range_at, scale_limit};
-ghost use Rattle.explain_text.specs.Figures.{hertz_or, last_row, scales_most};
+ghost use Rattle.explain_text.specs.Figures.{hertz_or, last_row, pclk1_most, pclk2_most, scales_most, sysclk_most};
 
-use res_model::{FlashRange, TableParts};
-
-/// The greatest HCLK under a scale.
-#[tactic(auto, unfolding(res_model::specs::Power::scale_limit))]
-fn scale_limit(t: &TableParts, vos: u16) -> Option<u64>
-    ensures { result ≡ scale_limit t.now vos }
-{
-    for scale in t.scales.as_slice() {
-        if u16::from(scale.vos) == vos {
-            return Some(scale.max);
-        }
-    }
-    None
-}
+use res_model::{FlashRange, TableParts, scale_limit, speeds_at};
 
 pub(crate) fn hertz_or(hertz: Option<u64>) -> u64
     ensures { result ≡ hertz_or hertz }
@@ -27,13 +14,46 @@ pub(crate) fn hertz_or(hertz: Option<u64>) -> u64
     }
 }
 
-/// The greatest HCLK under any of these scales.
-pub(crate) fn scales_most(t: &TableParts, scales: &[u16]) -> u64
-    ensures { result ≡ scales_most t.now scales.now }
+/// The greatest HCLK at any of these power steps.
+pub(crate) fn scales_most(t: &TableParts, steps: &[u16]) -> u64
+    ensures { result ≡ scales_most t.now steps.now }
 {
     let mut most = 0;
-    for vos in scales {
-        most = most.max(hertz_or(scale_limit(t, *vos)));
+    for step in steps {
+        most = most.max(hertz_or(scale_limit(t, *step)));
+    }
+    most
+}
+
+/// The greatest SYSCLK at any of these power steps.
+pub(crate) fn sysclk_most(t: &TableParts, steps: &[u16]) -> u64
+    ensures { result ≡ sysclk_most t.now steps.now }
+{
+    let mut most = 0;
+    for step in steps {
+        most = most.max(speeds_at(t, *step).sysclk);
+    }
+    most
+}
+
+/// The greatest PCLK1 at any of these power steps.
+pub(crate) fn pclk1_most(t: &TableParts, steps: &[u16]) -> u64
+    ensures { result ≡ pclk1_most t.now steps.now }
+{
+    let mut most = 0;
+    for step in steps {
+        most = most.max(speeds_at(t, *step).pclk1);
+    }
+    most
+}
+
+/// The greatest PCLK2 at any of these power steps.
+pub(crate) fn pclk2_most(t: &TableParts, steps: &[u16]) -> u64
+    ensures { result ≡ pclk2_most t.now steps.now }
+{
+    let mut most = 0;
+    for step in steps {
+        most = most.max(speeds_at(t, *step).pclk2);
     }
     most
 }

@@ -51,7 +51,7 @@ fn boxes_line(alloc: Global, limit: u8, boxes: u64) -> Result<String, AllocError
 /// The line of the limit that stands so far behind the first, with the leaves that it refutes.
 #[tactic(auto, unfolding(crate::specs::Reasons::limit_boxes))]
 fn limit_boxes(alloc: Global, nodes: &[Node], i: u8) -> Result<String, AllocError>
-    requires { i < 14 }
+    requires { i < 15 }
     ensures { IfOk result (λ x. string_bytes x ≡ limit_boxes nodes.now i) }
 {
     let limit = i + 3;
@@ -60,9 +60,9 @@ fn limit_boxes(alloc: Global, nodes: &[Node], i: u8) -> Result<String, AllocErro
 
 /// Appends the line of each limit.
 fn put_boxes(alloc: Global, out: &mut Vec<u8>, nodes: &[Node]) -> Result<(), OutOfMemory>
-    ensures { OnOk result (out.new.items ≡ out.old.items ++ joined 14 (limit_boxes nodes.now)) }
+    ensures { OnOk result (out.new.items ≡ out.old.items ++ joined 15 (limit_boxes nodes.now)) }
 {
-    for i in 0..14u8 {
+    for i in 0..15u8 {
         let line = limit_boxes(alloc, nodes, i)?;
         out.extend_from_slice(line.as_bytes())?;
     }

@@ -253,9 +253,8 @@ divider_passed c =
         (ends (codes "ahb " ++ decimal c.hpre ++ codes " apb1 " ++ decimal c.ppre1 ++ codes " apb2 " ++ decimal c.ppre2 ++ codes " vos " ++ decimal scale) three) refl
     passed scale true two =
         let three = more (codes "ahb " ++ decimal c.hpre ++ codes " apb1 " ++ decimal c.ppre1 ++ codes " apb2 " ++ decimal c.ppre2) (codes " vos ") (decimal scale) two (clean_text (codes " vos ") refl) (clean_decimal scale) in
-        let four = clean_append (codes "ahb " ++ decimal c.hpre ++ codes " apb1 " ++ decimal c.ppre1 ++ codes " apb2 " ++ decimal c.ppre2 ++ codes " vos " ++ decimal scale) (codes " over") three (clean_text (codes " over") refl) in
         passed_line (codes "ahb " ++ decimal c.hpre ++ codes " apb1 " ++ decimal c.ppre1 ++ codes " apb2 " ++ decimal c.ppre2 ++ codes " vos " ++ decimal scale ++ codes " over\n")
-        (ends (codes "ahb " ++ decimal c.hpre ++ codes " apb1 " ++ decimal c.ppre1 ++ codes " apb2 " ++ decimal c.ppre2 ++ codes " vos " ++ decimal scale ++ codes " over") four) refl
+        (ends_after (codes "ahb " ++ decimal c.hpre ++ codes " apb1 " ++ decimal c.ppre1 ++ codes " apb2 " ++ decimal c.ppre2 ++ codes " vos " ++ decimal scale) (codes " over\n") three (ends (codes " over") (clean_text (codes " over") refl))) refl
 
 choice_passed : (f : Facts) (c : ClockChoice) → ArePassedOver (choice_lines f c)
 unfolding choice_lines pll_line hse_line

@@ -1,12 +1,13 @@
-//! What one worker closes, and for which cause.
+//! What one worker closes, and for which cause; and that a walk over all choices finds the same.
 ghost use Rattle.std.specs.Prelude.{◌≡◌, IfOk, [], ◌∷◌};
 ghost use Rattle.choice_rank.specs.declared.variable.Costs.TheVariants.{HomeFirst};
 ghost use Rattle.choice_rank.specs.Choices.{IsShape};
 ghost use Rattle.search_api.proofs.ShapeLemmas.{shape_prop};
-ghost use Rattle.serial_search.specs.Tests.{tiny_meaning, tiny_lawful};
+ghost use Rattle.serial_search.specs.Tests.{reaches, tiny_meaning, tiny_lawful};
 
 use box_split::{BoxBuf, is_single};
 use choice_rank::{Costs, Shape, VarShape};
+use plain_walk::{Legality, walk};
 use res_base::OutOfMemory;
 use search_api::{Cause, Closed, Judge, Reason, Verdict};
 use serial_search::search;
@@ -50,6 +51,14 @@ impl Judge for Tiny {
     }
 
     ghost lawful = { λ j. tiny_lawful j.shape j.least j.shaped };
+}
+
+impl Legality for Tiny {
+    ghost legal = { λ j. reaches j.least };
+
+    fn is_legal(&self, _alloc: Global, at: &[u16]) -> Result<bool, OutOfMemory> {
+        Ok(at.is_empty() || self.least <= at[0])
+    }
 }
 
 fn four_and_three(alloc: Global) -> Result<Shape, Fail> {
@@ -102,5 +111,21 @@ fn no_choice_is_legal(rt: HostRuntime) -> Result<(), Fail> {
     assert_eq!(rt; outcome.best, None);
     assert_eq!(rt; outcome.kept.len(), 0);
     assert_eq!(rt; outcome.closed.len(), 1);
+    Ok(())
+}
+
+/// What a walk over all choices finds from a first position on.
+fn walked(alloc: Global, least: u16) -> Result<Option<u64>, Fail> {
+    let shape = four_and_three(alloc)?;
+    let other = four_and_three(alloc)?;
+    let _vars = shape.vars();
+    let judge = Tiny { shape, least };
+    Ok(walk(alloc, &other, &judge)?)
+}
+
+#[test]
+fn a_walk_over_all_choices_finds_the_same(rt: HostRuntime) -> Result<(), Fail> {
+    assert_eq!(rt; walked(rt.alloc(), 1)?, Some(15));
+    assert_eq!(rt; walked(rt.alloc(), 4)?, None);
     Ok(())
 }

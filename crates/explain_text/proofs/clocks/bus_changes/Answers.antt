@@ -6,7 +6,7 @@ pub returns : goal.returns
 unfolding bus_changes
 returns c =
     rw (
-      c.in_ok-put_change-2.ensures,
+      c.in_ok-put_step.ensures,
       c.in_ok-put_change.ensures,
       c.in_ok-out.ensures,
       c.home_value.ensures,

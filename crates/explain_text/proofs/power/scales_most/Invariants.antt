@@ -2,5 +2,5 @@ use Rattle.std.proofs.Common.{◌≡◌, drop, max}
 use Rattle.explain_text.specs.Figures.{scales_most}
 use Rattle.explain_text.proofs.power.scales_most.Given as goal
 
-abbrev pub invariant-loop-vos : goal.invariant-loop-vos
-invariant-loop-vos l = max l.most (scales_most l.t (drop l.vos-index l.scales)) ≡ scales_most l.t l.scales
+abbrev pub invariant-loop-step : goal.invariant-loop-step
+invariant-loop-step l = max l.most (scales_most l.t (drop l.step-index l.steps)) ≡ scales_most l.t l.steps

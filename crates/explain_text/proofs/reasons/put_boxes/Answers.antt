@@ -14,4 +14,4 @@ loop-i-preserved c =
     (c.in_ok-extend_from_slice.ensures.items ∙ ap (λ (l : List ℕ). c.loop-i.out.items ++ l) (c.as_bytes.ensures.value ∙ c.in_ok-line.ensures))
 
 pub returns : goal.returns
-returns c = all (limit_boxes c.args.nodes.now) c.args.out.now.items c.loop-i.out.items c.loop-i.i (14) (omega arith) c.loop-i.invariant
+returns c = all (limit_boxes c.args.nodes.now) c.args.out.now.items c.loop-i.out.items c.loop-i.i 15 (omega arith) c.loop-i.invariant

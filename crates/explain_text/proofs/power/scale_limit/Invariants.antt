@@ -1,7 +1,0 @@
-use Rattle.std.proofs.Common.{◌≡◌, drop}
-use Rattle.std.specs.Prelude.{find, ◌==◌}
-use Rattle.res_model.specs.declared.table.Scale.{Scale}
-use Rattle.explain_text.proofs.power.scale_limit.Given as goal
-
-abbrev pub invariant-loop-scale : goal.invariant-loop-scale
-invariant-loop-scale l = find (λ (s : Scale). s.vos == l.fn.vos) l.scale-items ≡ find (λ (s : Scale). s.vos == l.fn.vos) (drop l.scale-index l.scale-items)
