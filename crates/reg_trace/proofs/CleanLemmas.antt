@@ -1,6 +1,5 @@
 -- A sound run tells of no fault.
-use Rattle.std.proofs.Common.{◌≡◌, ℕ, zero, suc, List, [], ◌∷◌, ◌++◌, Bool, true, false, ◌&&◌, cond, refl, sym, subst, ap, ◌∙◌}
-use Rattle.std.specs.Prelude.{◌↔◌, IsTrue}
+use Rattle.std.proofs.Common.{◌≡◌, ℕ, zero, suc, List, [], ◌∷◌, ◌++◌, Bool, true, false, ◌&&◌, cond, refl}
 use Rattle.res_base.specs.Lists.{Each}
 use Rattle.res_model.specs.declared.table.TableParts.{TableParts}
 use Rattle.reg_machine.specs.Legal.{IsLegal, is_legal}
@@ -15,7 +14,7 @@ use Rattle.reg_machine.specs.declared.state.State.{State}
 use Rattle.reg_machine.specs.declared.state.Target.{Target}
 use Rattle.reg_machine.proofs.LegalLemmas.{legal_says}
 use Rattle.reg_trace.specs.Clean.{IsClean}
-use Rattle.reg_trace.specs.Lines.{RunDone, TraceLine}
+use Rattle.reg_trace.specs.Lines.{TraceLine}
 use Rattle.reg_trace.specs.Reading.{most}
 use Rattle.reg_trace.specs.Trace.{Moment, fine_after, goes_on, is_fine, lines_from, moment, moment_of, moments, number_after, step_lines, trace_lines}
 

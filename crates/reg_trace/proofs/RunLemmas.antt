@@ -1,6 +1,6 @@
 -- A run that is traced, a step at a time.
 use Rattle.std.proofs.Common.{◌≡◌, ℕ, zero, suc, ◌+◌, ◌<◌, ◌≤◌, List, [], ◌∷◌, ◌++◌, length, get_or, drop, Bool, true, false, ◌&&◌, cond, refl, sym, subst, ap, ◌∙◌, append_assoc, arith}
-use Rattle.std.specs.Prelude.{map, Result, Ok, Err}
+use Rattle.std.specs.Prelude.{map, Ok, Err}
 use Rattle.std.specs.List.{concat}
 use Rattle.std.proofs.lemmas.List.{append-nil}
 use Rattle.res_model.specs.declared.table.TableParts.{TableParts}
@@ -20,8 +20,8 @@ use Rattle.reg_machine.specs.declared.state.State.{State}
 use Rattle.reg_machine.specs.declared.state.Target.{Target}
 use Rattle.reg_trace.specs.Lines.{OpWent, RunDone, TraceLine, done_text, end_text, line_text, text_of}
 use Rattle.reg_trace.specs.Reading.{most}
-use Rattle.reg_trace.specs.Trace.{Moment, fine_after, goes_on, is_fine, is_over, lines_from, moment, moments, number_after, register_of, step_lines, trace_lines, trace_of}
-use Rattle.reg_trace.specs.Turn.{IsSeen, IsTurn, run_lines, run_over, seen_text, todo_after}
+use Rattle.reg_trace.specs.Trace.{Moment, Refuses, fine_after, goes_on, is_fine, is_over, lines_from, moment, moments, number_after, register_of, step_lines, trace_lines, trace_of}
+use Rattle.reg_trace.specs.Turn.{IsSeen, IsTurn, Traces, run_lines, run_over, seen_text, todo_after}
 use Rattle.reg_trace.specs.declared.lines.Seen.{Seen}
 use Rattle.reg_trace.specs.declared.turn.Turn.{Turn}
 use Rattle.reg_trace.specs.declared.fault.TraceFault.{TraceFault}
@@ -221,14 +221,6 @@ ops_after stepped.Waiting todo h k = h
 ops_after (stepped.TimedOut name) todo h k = h
 ops_after (stepped.Forbidden rule) todo h k = h
 
-pub first_op : (ops : List Op) (o : Op) → 0 < length ops → o ≡ get_or ops 0 o → ops ≡ o ∷ drop 1 ops
-first_op [] o l e = absurd (omega (arith, l))
-first_op (p ∷ ops) o l e = ap (λ (q : Op). q ∷ ops) (sym e)
-
-pub first_is_op : (ops : List Op) (o : Op) → 0 < length ops → o ≡ get_or ops 0 o → Each IsOp ops → IsOp o × Each IsOp (drop 1 ops)
-first_is_op [] o l e h = absurd (omega (arith, l))
-first_is_op (p ∷ ops) o l e h = (subst IsOp (sym e) h.0, h.1)
-
 -- what a turn did, for the answer that is due and the table and the target that stay
 pub record Turned (legal : State → Bool) (m : Moment) (fine : Bool) (turn : Turn) (s : State) : Type 0 where
   pub stepped : turn.stepped ≡ m.stepped
@@ -271,3 +263,9 @@ pub too_long : (t : TableParts) (want : Target) (ops : List Op) (answers : List 
 unfolding trace_of trace_lines
 too_long t want ops answers v is over =
     ap (λ (b : Bool). cond b (Ok (text_of (run_lines (fresh t want) ops answers))) (Err fault.Long)) (ap (λ (u : View). run_over u ops answers) (sym is) ∙ over)
+
+-- what was refused
+pub refused : (t : TableParts) (want : Target) (ops : List Op) (answers : List Answer) (v : View) (old new : List ℕ) (e : TraceFault)
+    → v ≡ fresh t want → Traces {X = Unit {0}} v ops answers old new (Err e) → Refuses e (trace_of t want ops answers)
+refused t want ops answers v old new fault.Long is over = too_long t want ops answers v is over
+refused t want ops answers v old new fault.Memory is over = tt

@@ -1,11 +1,11 @@
 -- One step of a run that is traced.
-use Rattle.std.proofs.Common.{◌≡◌, ℕ, ◌+◌, Bool, true, false, ◌&&◌, cond, Option, Some, None, refl, sym, subst, ap, ◌∙◌}
+use Rattle.std.proofs.Common.{◌≡◌, ℕ, ◌+◌, Bool, true, false, ◌&&◌, cond, Option, Some, None, refl, sym, ap, ◌∙◌}
 use Rattle.std.specs.Option.{option_map_or}
 use Rattle.res_model.specs.declared.table.TableParts.{TableParts}
 use Rattle.reg_machine.specs.Legal.{is_legal}
 use Rattle.reg_machine.specs.Reset.{View}
 use Rattle.reg_machine.specs.Rules.{bars}
-use Rattle.reg_machine.specs.Step.{act, flags, is_acr, modified, noted, step_of, store, stored, went}
+use Rattle.reg_machine.specs.Step.{act, flags, is_acr, modified, step_of, store, stored, went}
 use Rattle.reg_machine.specs.declared.op.Answer.{Answer}
 use Rattle.reg_machine.specs.declared.op.Op.{Op}
 use Rattle.reg_machine.specs.declared.op.Op.TheVariants as op
@@ -16,9 +16,7 @@ use Rattle.reg_machine.specs.declared.op.Stepped.TheVariants as stepped
 use Rattle.reg_machine.specs.declared.op.Timeout.{Timeout}
 use Rattle.reg_machine.specs.declared.state.State.{State}
 use Rattle.reg_machine.specs.declared.state.Target.{Target}
-use Rattle.reg_trace.specs.Trace.{is_fine, moment}
 use Rattle.reg_trace.specs.Turn.{IsTurn, legal_after}
-use Rattle.reg_trace.specs.declared.turn.Turn.{Turn}
 
 -- the count of polls is not looked at
 polls_apart : (t : TableParts) (want : Target) (s : State) (n : ℕ) → is_legal t want (record s { polls = n }) ≡ is_legal t want s

@@ -1,5 +1,5 @@
 -- Internal: one step of a run that is traced.
-use Rattle.std.specs.Prelude.{◌≡◌, ℕ, List, [], ◌∷◌, ◌++◌, drop, Bool, true, false, ◌&&◌, Result, Ok, Err}
+use Rattle.std.specs.Prelude.{◌≡◌, ℕ, List, [], ◌++◌, drop, Bool, true, false, ◌&&◌, Result, Ok, Err}
 use Rattle.reg_map.specs.Registers.{address}
 use Rattle.reg_machine.specs.Legal.{is_legal}
 use Rattle.reg_machine.specs.Reset.{View}

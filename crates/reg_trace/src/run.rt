@@ -121,6 +121,8 @@ pub fn trace(
 {
     let mut machine = Machine::reset(alloc, t, want)?;
     let mut out = Vec::new(alloc);
-    put_run(alloc, &mut machine, ops, answers, &mut out)?;
-    Ok(out)
+    match put_run(alloc, &mut machine, ops, answers, &mut out) {
+        Ok(()) => Ok(out),
+        Err(fault) => Err(fault),
+    }
 }

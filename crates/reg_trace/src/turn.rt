@@ -1,5 +1,5 @@
 //! One step of a run that is traced.
-ghost use Rattle.std.specs.Prelude.{◌≡◌, ◌+◌, ◌<◌, ◌^◌, drop};
+ghost use Rattle.std.specs.Prelude.{◌≡◌, ◌+◌, ◌<◌, ◌^◌, ◌&&◌, drop};
 ghost use Rattle.reg_machine.specs.Words.{IsOp};
 ghost use Rattle.reg_trace.specs.Trace.{fine_after, goes_on, number_after};
 ghost use Rattle.reg_trace.specs.Turn.{IsTurn, legal_after, todo_after};
@@ -25,8 +25,15 @@ pub(crate) fn take_turn(m: &mut Machine, op: &Op, a: Answer, fine: bool) -> Turn
     let after = is_legal_after(m, stepped, flagged);
     Turn {
         stepped,
-        fine: fine && (flagged && after),
+        fine: all_hold(fine, flagged, after),
     }
+}
+
+/// Whether all three hold.
+fn all_hold(fine: bool, flagged: bool, after: bool) -> bool
+    ensures { result ≡ (fine && (flagged && after)) }
+{
+    fine && (flagged && after)
 }
 
 /// Whether the state behind a step is legal. An await that goes on has changed its count of polls alone, so it is where the

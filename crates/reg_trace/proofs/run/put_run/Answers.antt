@@ -1,4 +1,4 @@
-use Rattle.std.proofs.Common.{◌≡◌, ℕ, suc, ◌+◌, ◌-◌, ◌<◌, List, ◌++◌, length, drop, true, false, sym, ap, subst, ◌∙◌, refl, arith, rules}
+use Rattle.std.proofs.Common.{◌≡◌, suc, ◌-◌, ◌<◌, List, ◌++◌, length, drop, true, false, sym, subst, ◌∙◌, refl, arith, rules}
 use Rattle.res_base.specs.Lists.{Each}
 use Rattle.reg_machine.specs.Legal.{is_legal}
 use Rattle.reg_machine.specs.Words.{IsOp}
@@ -6,7 +6,7 @@ use Rattle.reg_machine.specs.declared.op.Op.{Op}
 use Rattle.reg_trace.specs.Lines.{text_of}
 use Rattle.reg_trace.specs.Trace.{goes_on}
 use Rattle.reg_trace.specs.Turn.{run_lines, run_over}
-use Rattle.reg_trace.proofs.RunLemmas.{Told, begins, done, ends_by, goes_by, long, moved, ops_after, turned}
+use Rattle.reg_trace.proofs.RunLemmas.{begins, done, ends_by, goes_by, long, moved, ops_after, turned}
 use Rattle.reg_trace.proofs.run.put_run.Goals as goal
 
 pub steps-init : goal.steps-init
@@ -38,8 +38,8 @@ steps-preserved c =
       stands = moved _ _ _ _ _ _ _ _ _ _ c.number_after-number.result c.fine_after-fine.result c.todo_after-todo.result.now c.later_answers-coming.result.now went c.number_after-number.ensures c.fine_after-fine.ensures c.todo_after-todo.ensures c.later_answers-coming.ensures;
     }
 
-pub number_after-requires : goal.number_after-requires
-number_after-requires c = omega (arith, c.steps.invariant.stands.small)
+pub number_after-number-requires : goal.number_after-number-requires
+number_after-number-requires c = omega (arith, c.steps.invariant.stands.small)
 
 pub returns-then-left-eq0 : goal.returns-then-left-eq0
 returns-then-left-eq0 c =
@@ -48,8 +48,8 @@ returns-then-left-eq0 c =
     let some : 0 < length l.todo.now = search rules in
     long _ _ _ _ _ _ l.left l.todo.now l.coming.now l.m.state l.invariant.stands none some
 
-pub returns-then-goes_on : goal.returns-then-goes_on
-returns-then-goes_on c =
+pub returns-then-not-goes_on : goal.returns-then-not-goes_on
+returns-then-not-goes_on c =
     let v = c.args.m.now in
     let l = c.steps in
     let i = c.steps.invariant in
