@@ -86,10 +86,10 @@ part_here whole before rest line others part ended h lines bytes e is =
     let p = part_of (lines_of others) in
     let none : before + 0 ≡ before = omega arith in
     sym (
-      h ∙ ap (λ (ls : List TextLine). behind before (part_of ls)) lines
-      ∙ ap (λ (b : Bool). behind before (cond b (record { before = 0; text = bytes_of l ++ to_close (lines_of others) }) (behind 1 p))) e
-      ∙ ap (λ (n : ℕ). record { before = n; text = bytes_of l ++ to_close (lines_of others) }) none
-      ∙ ap (λ (t : List ℕ). record { before = before; text = t }) (sym is)
+    h ∙ ap (λ (ls : List TextLine). behind before (part_of ls)) lines
+    ∙ ap (λ (b : Bool). behind before (cond b (record { before = 0; text = bytes_of l ++ to_close (lines_of others) }) (behind 1 p))) e
+    ∙ ap (λ (n : ℕ). record { before = n; text = bytes_of l ++ to_close (lines_of others) }) none
+    ∙ ap (λ (t : List ℕ). record { before = before; text = t }) (sym is)
     )
 
 pub part_none : (whole : CPart) (before : ℕ) (rest : List ℕ) → whole ≡ behind before (part_of (lines_of rest)) → length rest ≡ 0 → record { before = before; text = [] } ≡ whole

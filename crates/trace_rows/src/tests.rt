@@ -1,9 +1,9 @@
 //! The rows.
 use crate::asked::traced;
 use reg_trace::{AnswerFault, read_answers};
-use text_lines::{ended_line, first_field, first_line};
 use std::alloc::Global;
 use std::test::Fail;
+use text_lines::{ended_line, first_field, first_line};
 
 /// The report of an empty project, to its last line.
 fn bare() -> &'static [u8] {
@@ -69,7 +69,16 @@ fn an_await_times_out_without_its_flag(rt: HostRuntime) -> Result<(), Fail> {
 fn what_is_refused_is_told_by_its_line(rt: HostRuntime) -> Result<(), Fail> {
     let alloc = rt.alloc();
     assert!(rt; is_told(alloc, false, bare(), b"10 lh\n", 15, b"answers: line 1\n")?);
-    assert!(rt; is_told(alloc, false, b"limits met\n", b"10 lh\n", 14, b"c: line 2\n")?);
+    assert!(rt;
+        is_told(
+            alloc,
+            false,
+            b"limits met\n",
+            b"10 lh\n",
+            14,
+            b"c: line 2\n"
+        )?
+    );
     Ok(())
 }
 
