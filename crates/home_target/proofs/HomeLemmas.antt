@@ -65,5 +65,5 @@ no_homes t ss k e = ap (home_modes t) (sym (ap (λ (n : ℕ). drop n ss) e ∙ d
 -- one more
 pub one_home : (t : TableParts) (ss : List Signal) (k : ℕ) (s : Signal) (modes now : List (Option Mode)) (found : Option PinUse) → modes ≡ home_modes t (drop (k + 1) ss) → drop k ss ≡ s ∷ drop (k + 1) ss
     → found ≡ home_use t s → now ≡ with_use t found modes → now ≡ home_modes t (drop k ss)
-one_home t ss k s modes now found h cut use is =
-    is ∙ ap (λ (o : Option PinUse). with_use t o modes) use ∙ ap (with_use t (home_use t s)) h ∙ ap (home_modes t) (sym cut)
+one_home t ss k s modes now found h cut taken is =
+    is ∙ ap (λ (o : Option PinUse). with_use t o modes) taken ∙ ap (with_use t (home_use t s)) h ∙ ap (home_modes t) (sym cut)

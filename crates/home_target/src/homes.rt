@@ -26,6 +26,7 @@ fn at_home(home: u8, uses: &[PinUse]) -> Option<PinUse>
 }
 
 /// The use that a signal makes of its home.
+#[tactic(auto, unfolding(crate::specs::Homes::home_use))]
 fn home_use(alloc: Global, t: &Tables, s: &Signal) -> Result<Option<PinUse>, OutOfMemory>
     ensures { IfOk result (λ u. u ≡ home_use t.now s.now) }
 {
