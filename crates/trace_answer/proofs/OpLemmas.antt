@@ -1,5 +1,5 @@
 -- Accesses that have lines.
-use Rattle.std.proofs.Common.{List, [], ◌∷◌}
+use Rattle.std.proofs.Common.{List}
 use Rattle.res_base.specs.Lists.{Each}
 use Rattle.res_base.proofs.ListLemmas.{each_map}
 use Rattle.reg_machine.specs.Words.{IsOp}

@@ -1,8 +1,9 @@
 -- The part of a file, a line at a time.
-use Rattle.std.proofs.Common.{◌≡◌, ℕ, ◌+◌, ◌-◌, ◌≤◌, List, [], ◌∷◌, ◌++◌, length, take, drop, Bool, true, false, cond, refl, sym, subst, ap, ◌∙◌, append_assoc, length-append, arith}
+use Rattle.std.proofs.Common.{◌≡◌, ℕ, ◌+◌, ◌-◌, ◌≤◌, List, [], ◌∷◌, ◌++◌, length, take, Bool, true, false, cond, refl, sym, ap, ◌∙◌, append_assoc, length-append, arith}
 use Rattle.std.specs.Prelude.{codes}
 use Rattle.std.specs.Str.{bytes_eq}
-use Rattle.std.proofs.lemmas.List.{append-nil, take-append-le}
+use Rattle.std.proofs.Math.Seq.{take-append-add}
+use Rattle.std.proofs.lemmas.List.{append-nil}
 use Rattle.std.proofs.lemmas.Grind.{common_steps}
 use Rattle.text_lines.specs.Lines.{TextLine, bytes_of, lines_of}
 use Rattle.trace_answer.specs.Part.{CPart, behind, part_of, to_close}
@@ -73,10 +74,7 @@ pub first_bytes : (text line others zs : List ℕ) (n : ℕ) → text ≡ line +
 first_bytes text line others zs n is l e =
     let long : length text ≡ length line + length others = ap length is ∙ length-append line others in
     let at : length text - length others + n ≡ length line + n = omega (arith, long) in
-    ap (λ (xs : List ℕ). take (length text - length others + n) xs) is ∙ ap (λ (k : ℕ). take k (line ++ others)) at ∙ past line others n ∙ ap (λ (xs : List ℕ). line ++ xs) e
-  where
-    past : (xs ys : List ℕ) (k : ℕ) → take (length xs + k) (xs ++ ys) ≡ xs ++ take k ys
-    past xs ys k = grind (arith, common_steps)
+    ap (λ (xs : List ℕ). take (length text - length others + n) xs) is ∙ ap (λ (k : ℕ). take k (line ++ others)) at ∙ take-append-add line others n ∙ ap (λ (xs : List ℕ). line ++ xs) e
 
 pub part_here : (whole : CPart) (before : ℕ) (rest line others part : List ℕ) (ended : Bool) → whole ≡ behind before (part_of (lines_of rest)) → lines_of rest ≡ record { text = line; ended = ended } ∷ lines_of others
     → rest ≡ bytes_of (record { text = line; ended = ended }) ++ others → bytes_eq line (codes "#include <stdint.h>") ≡ true

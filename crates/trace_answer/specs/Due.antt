@@ -1,6 +1,5 @@
 -- What is due where a C text is traced.
 use Rattle.std.specs.Prelude.{◌≡◌, ℕ, ◌+◌, List, ◌++◌, Ok, Err, codes, decimal}
-use Rattle.res_base.specs.Lists.{Each}
 use Rattle.answers.specs.Said.{Says, answered}
 use Rattle.answers.specs.declared.answer.Answer.{Answer}
 use Rattle.answers.specs.declared.answer.Status.TheVariants.{AnswersRefused, CTextRefused, Done, TraceTooLong}

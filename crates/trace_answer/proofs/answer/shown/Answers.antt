@@ -1,4 +1,4 @@
-use Rattle.std.proofs.Common.{◌≡◌, List, ℕ, subst, ap}
+use Rattle.std.proofs.Common.{List, ℕ, subst, ap}
 use Rattle.std.proofs.lemmas.Result.{IfOk-weaker}
 use Rattle.answers.specs.Said.{answered}
 use Rattle.answers.specs.declared.answer.Status.TheVariants.{Done}

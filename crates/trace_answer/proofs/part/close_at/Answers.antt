@@ -1,7 +1,7 @@
-use Rattle.std.proofs.Common.{◌≡◌, ◌∙◌, ℕ, ◌+◌, ◌≤◌, length, true, false, sym, ap, arith, rules}
+use Rattle.std.proofs.Common.{◌≡◌, false, arith, rules}
 use Rattle.std.specs.Prelude.{codes}
 use Rattle.std.specs.Str.{bytes_eq}
-use Rattle.trace_answer.proofs.PartLemmas.{closes_all, closes_here, closes_never, closes_past}
+use Rattle.trace_answer.proofs.PartLemmas.{closes_all, closes_past}
 use Rattle.trace_answer.proofs.part.close_at.Goals as goal
 
 pub lines-init : goal.lines-init
@@ -9,9 +9,9 @@ lines-init c = record { closes = closes_all c.args.text.now; shorter = omega ari
 
 pub lines-preserved : goal.lines-preserved
 lines-preserved c =
-    let first = c.first_line.result in
+    let first = c.first_line-ended.result in
     let apart : bytes_eq first.0.now (codes "}") ≡ false = search rules in
     record {
-      closes = closes_past c.args.text.now c.lines.rest.now first.0.now first.2.now first.1 c.lines.invariant.closes c.first_line.ensures.line c.first_line.ensures.bytes apart;
-      shorter = omega (arith, c.first_line.ensures.shorter, c.lines.invariant.shorter);
+      closes = closes_past c.args.text.now c.lines.rest.now first.0.now first.2.now first.1 c.lines.invariant.closes c.first_line-ended.ensures.line c.first_line-ended.ensures.bytes apart;
+      shorter = omega (arith, c.first_line-ended.ensures.shorter, c.lines.invariant.shorter);
     }
