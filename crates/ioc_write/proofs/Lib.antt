@@ -8,6 +8,7 @@ mod ClocksBack
 mod Cuts
 mod Fates
 mod FewLemmas
+mod GivenBack
 mod HomesBack
 mod KeysOn
 mod LineBack

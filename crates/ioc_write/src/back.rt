@@ -1,9 +1,12 @@
 //! The text of a project with a choice as its homes.
-ghost use Rattle.std.specs.Prelude.{◌≡◌, ◌≢◌, ◌≤◌, ◌<◌, ◌+◌, ◌^◌, ◌++◌, length, nat_le, IfOk, OnOk};
+ghost use Rattle.std.specs.Prelude.{◌≡◌, ◌≢◌, ◌≤◌, ◌<◌, ◌+◌, ◌^◌, ◌++◌, length, nat_le, true, IfOk, OnOk};
 ghost use Rattle.choice_rank.specs.Choices.{IsChoice};
 ghost use Rattle.ioc_write.specs.BackFaults.{Gives};
 ghost use Rattle.ioc_lines.specs.Lines.{text_lines};
+ghost use Rattle.res_model.specs.Placement.{fits};
+ghost use Rattle.res_model.specs.declared.opts.Opts.{Opts};
 ghost use Rattle.ioc_write.specs.Plans.{IsPlan};
+ghost use Rattle.ioc_write.specs.ReadsBack.{IsOfText, ReadsBack};
 ghost use Rattle.ioc_write.specs.Survey.{IsSurvey, above};
 ghost use Rattle.ioc_write.specs.WriteBack.{appended, ends_with_newline, followed_by, lines_back, needs_of, pins_written, uses_of, written_back};
 
@@ -122,12 +125,9 @@ fn lines_back(
     Ok(out)
 }
 
-/// The text of a project with a choice as its homes.
-///
-/// `NoNumber` comes where the needs would be numbered above 2^64 - 1; else `LongLine` names the first line of the text
-/// that would get more than 65,535 bytes.
+/// The same text, with no word on how it reads.
 #[tactic(auto, unfolding(crate::specs::WriteBack::written_back))]
-pub fn write_back(alloc: Global, text: &[u8], p: &Problem, at: &[u16]) -> Result<Vec<u8>, BackFault>
+fn text_back(alloc: Global, text: &[u8], p: &Problem, at: &[u16]) -> Result<Vec<u8>, BackFault>
     requires few { length text.now < 2 ^ 32 }
     requires choice { IsChoice p.now.shape at.now }
     requires whole { p.now.first ≢ 0 }
@@ -141,4 +141,21 @@ pub fn write_back(alloc: Global, text: &[u8], p: &Problem, at: &[u16]) -> Result
     let uses = uses_of(alloc, p, at)?;
     let plan = plan_of(alloc, p, at, uses.as_slice(), survey.pins + needs as u64)?;
     lines_back(alloc, text, &plan, &survey, uses.as_slice())
+}
+
+/// The text of a project with a choice as its homes.
+///
+/// `NoNumber` comes where the needs would be numbered above 2^64 - 1; else `LongLine` names the first line of the text
+/// that would get more than 65,535 bytes. Where the problem is that of the text under some options, and the pins of the
+/// choice fit, what is written reads back: under the same options but no needs, with the choice as its homes.
+pub fn write_back(alloc: Global, text: &[u8], p: &Problem, at: &[u16]) -> Result<Vec<u8>, BackFault>
+    requires few { length text.now < 2 ^ 32 }
+    requires choice { IsChoice p.now.shape at.now }
+    requires whole { p.now.first ≢ 0 }
+    ensures written { Gives (λ v. v.items) result (written_back text.now p.now at.now) }
+    ensures reads_back { (opts : Opts) → IsOfText text.now opts p.now → fits p.now.tables (uses_of p.now at.now) ≡ true → IfOk result (λ v. ReadsBack v.items opts p.now at.now) }
+{
+    p.parts_agree();
+    p.parts().tables.keeps_rules();
+    text_back(alloc, text, p, at)
 }

@@ -10,17 +10,17 @@ use Rattle.ioc_write.specs.declared.fault.BackFault.TheVariants.{NoNumber, LongL
 use Rattle.ioc_answer.proofs.owed.written.Goals as goal
 
 pub returns-in-Ok : goal.returns-in-Ok
-returns-in-Ok c = back c.args.at.now c.in-Ok.out.items c.requires.least c.in-Ok.ensures (ap (answered Done) c.of.ensures)
+returns-in-Ok c = back c.args.at.now c.in-Ok.out.items c.requires.least c.in-Ok.ensures.written (ap (answered Done) c.of.ensures)
 
 pub returns-in-Err-NoNumber : goal.returns-in-Err-NoNumber
 returns-in-Err-NoNumber c =
     let text = written_back c.args.text.now c.args.p.now c.args.at.now in
-    let refused : text ≡ Err NoNumber = subst (λ (f : BackFault). Refuses f text) c.in-Err-NoNumber.field-0-is c.in-Err-NoNumber.ensures in
+    let refused : text ≡ Err NoNumber = subst (λ (f : BackFault). Refuses f text) c.in-Err-NoNumber.field-0-is c.in-Err-NoNumber.ensures.written in
     IfOk-weaker c.says.result _ _ (λ a says. unnumbered c.args.at.now c.requires.least refused says) c.says.ensures
 
 pub returns-in-Err-LongLine : goal.returns-in-Err-LongLine
 returns-in-Err-LongLine c =
     let text = written_back c.args.text.now c.args.p.now c.args.at.now in
     let line = c.in-Err-LongLine.line in
-    let refused : text ≡ Err (LongLine line) = subst (λ (f : BackFault). Refuses f text) c.in-Err-LongLine.field-0-is c.in-Err-LongLine.ensures in
+    let refused : text ≡ Err (LongLine line) = subst (λ (f : BackFault). Refuses f text) c.in-Err-LongLine.field-0-is c.in-Err-LongLine.ensures.written in
     IfOk-weaker c.too_long.result _ _ (λ a says. long c.args.at.now line c.requires.least refused says) c.too_long.ensures
