@@ -147,9 +147,7 @@ pub(crate) fn trace(
         &opts,
         true,
     )? {
-        Opened::Project { tables, project } => traced(
-            alloc, tables, project, &opts, c, answers,
-        ),
+        Opened::Project { tables, project } => traced(alloc, tables, project, &opts, c, answers),
         Opened::Refused(answer) => Ok(answer),
     }
 }
