@@ -10,7 +10,7 @@ import faults
 import words_fault
 
 REREAD_SECONDS = 5
-SAYS_A_TEXT = {2, 3, 4, 5, 6, 7, 10, 12, 13}
+SAYS_A_TEXT = {2, 3, 4, 5, 6, 7, 10, 12, 13, 14, 15, 16}
 
 
 def main(argv):
