@@ -19,7 +19,7 @@ abbrev pub verdict_by : Bool → Verdict
 verdict_by single = if single then verdict.Legal else verdict.Open
 
 abbrev pub free_meaning : List VarShape → Meaning
-free_meaning vars = record { shape = vars; legal = λ c. true; shows = λ r box. false; verdict = λ box. verdict_by (is_single box) }
+free_meaning vars = record { shape = vars; legal = λ c. true; refutes = λ r box. false; verdict = λ box. verdict_by (is_single box) }
 
 never_bad : (single : Bool) (r : Reason) → verdict_by single ≡ verdict.Bad r → ⊥
 never_bad true r e = cc
@@ -37,7 +37,7 @@ pub free_lawful : (vars : List VarShape) → IsShape vars → IsLawful (free_mea
 free_lawful vars shape = record {
   is_shape = shape;
   none_legal = λ r box b h choice i o l. absurd cc;
-  bad_shows = λ r box b e. absurd (never_bad (is_single box) r e);
+  bad_refutes = λ r box b e. absurd (never_bad (is_single box) r e);
   legal_is_one = λ box b e. (legal_is_single (is_single box) e, refl);
   open_has_two = λ box b e. open_is_more (is_single box) e;
 }

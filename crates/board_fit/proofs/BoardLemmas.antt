@@ -12,7 +12,7 @@ use Rattle.box_rules.specs.Contest.{contestants, hall_in, resource_of}
 use Rattle.box_rules.specs.Inside.{AreInside}
 use Rattle.box_rules.specs.Judged.{HasResources, IsWhole, whole_meaning}
 use Rattle.box_rules.proofs.ContestLemmas.{box_inside, use_has}
-use Rattle.box_rules.proofs.JudgeLemmas.{hall_shows, no_choice_fits, nothing}
+use Rattle.box_rules.proofs.JudgeLemmas.{found_hall_refutes, no_choice_fits, nothing}
 use Rattle.box_rules.proofs.WholeLemmas.{whole_lawful}
 use Rattle.box_split.specs.Boxes.{IsBox, LiesIn, Run, is_single, whole}
 use Rattle.box_split.proofs.PathLemmas.{whole_box}
@@ -71,7 +71,7 @@ placed_none t class uses rs choice inside lies resources few ok = case (hall_in 
 
     case : (o : Option VarSet) → hall_in t class (contestants class 10 uses rs) ≡ o → hall_in t class (contestants class 10 uses rs) ≡ None
     case None e = e
-    case (Some vars) e = absurd (no_choice_fits t class 10 uses rs choice inside lies small vars (hall_shows t class 10 uses rs few vars e) ok)
+    case (Some vars) e = absurd (no_choice_fits t class 10 uses rs choice inside lies small vars (found_hall_refutes t class 10 uses rs few vars e) ok)
 
 pub lies_whole : (vs : List VarShape) (xs : List ℕ) → IsChoice vs xs → LiesIn (whole vs) xs
 lies_whole [] [] h = tt

@@ -4,13 +4,13 @@ use Rattle.std.specs.Prelude.{not}
 use Rattle.choice_rank.specs.Least.{NoneLegal}
 use Rattle.choice_rank.specs.declared.variable.VarShape.{VarShape}
 use Rattle.box_rules.specs.Contest.{contestants, hall_in}
-use Rattle.box_rules.specs.Judged.{clock_box, contest, shows_whole, whole_meaning, whole_verdict, whole_verdict_from}
+use Rattle.box_rules.specs.Judged.{clock_box, contest, refutes_whole, whole_meaning, whole_verdict, whole_verdict_from}
 use Rattle.box_split.specs.Boxes.{IsBox, Run, highs, is_single, lows, whole}
 use Rattle.box_split.specs.Paths.{lower, split_from, upper}
 use Rattle.box_split.proofs.PathLemmas.{lower_box, lows_choice, upper_box}
-use Rattle.clock_limits.proofs.LeastLemmas.{shown_is_least}
+use Rattle.clock_limits.proofs.LeastLemmas.{refuting_is_least}
 use Rattle.clock_limits.specs.Laws.{IsLeastBroken}
-use Rattle.clock_limits.specs.Ranges.{shown_limit, shows_limit}
+use Rattle.clock_limits.specs.Ranges.{refuting_limit, limit_refutes}
 use Rattle.problem.specs.Meets.{meets}
 use Rattle.problem.specs.declared.parts.ProblemParts.{ProblemParts}
 use Rattle.refutation.specs.Canonical.{IsCanonical, IsCanonicalOf, NotBad}
@@ -33,10 +33,10 @@ not_false : (b : Bool) → not b ≡ false → b ≡ true
 not_false true e = refl
 not_false false e = cc
 
-limit_shows : (t : TableParts) (f : Facts) (values : List (List ℕ)) (b : ClockBox) (k : ℕ) → shown_limit t f values b ≡ Some k → shows_limit t f values b k ≡ true
-limit_shows t f values b k e =
-    let least = subst (λ (o : Option ℕ). IsLeastBroken (λ j. not (shows_limit t f values b j)) o) e (shown_is_least t f values b) in
-    not_false (shows_limit t f values b k) least.1
+limits_refute : (t : TableParts) (f : Facts) (values : List (List ℕ)) (b : ClockBox) (k : ℕ) → refuting_limit t f values b ≡ Some k → limit_refutes t f values b k ≡ true
+limits_refute t f values b k e =
+    let least = subst (λ (o : Option ℕ). IsLeastBroken (λ j. not (limit_refutes t f values b j)) o) e (refuting_is_least t f values b) in
+    not_false (limit_refutes t f values b k) least.1
 
 -- ---- verdicts where signals can be placed
 
@@ -61,7 +61,7 @@ is_legal None false e h = absurd cc
 
 -- the limit that the runs of the clock variables show
 abbrev pub limit_with : TableParts → Facts → List (List ℕ) → List Run → Option ℕ
-limit_with t f values cb = shown_limit t f values record { lo = lows cb; hi = highs cb }
+limit_with t f values cb = refuting_limit t f values record { lo = lows cb; hi = highs cb }
 
 abbrev pub limit_of : ProblemParts → List Run → Option ℕ
 limit_of x cb = limit_with x.tables x.facts x.clock cb
@@ -73,8 +73,8 @@ module _ (x : ProblemParts) (tail : List Run) (first : x.first ≡ 10) (placed :
       let hi : take 10 (highs (cb ++ tail)) ≡ highs cb = ap (take 10) (highs_join cb tail) ∙ take_join 10 (highs cb) (highs tail) (highs_length cb ∙ ten) in
       ap (λ (l : List ℕ). (let b : ClockBox = record { lo = l; hi = take 10 (highs (cb ++ tail)) } in b)) lo ∙ ap (λ (h : List ℕ). (let b : ClockBox = record { lo = lows cb; hi = h } in b)) hi
 
-  limit_is : (cb : List Run) → length cb ≡ 10 → shown_limit x.tables x.facts x.clock (clock_box (cb ++ tail)) ≡ limit_of x cb
-  limit_is cb ten = ap (shown_limit x.tables x.facts x.clock) (clock_runs cb ten)
+  limit_is : (cb : List Run) → length cb ≡ 10 → refuting_limit x.tables x.facts x.clock (clock_box (cb ++ tail)) ≡ limit_of x cb
+  limit_is cb ten = ap (refuting_limit x.tables x.facts x.clock) (clock_runs cb ten)
 
   no_hall : (class : Class) (cb : List Run) → length cb ≡ 10 → hall_in x.tables class (contest x class (cb ++ tail)) ≡ None
   no_hall class cb ten =
@@ -84,12 +84,12 @@ module _ (x : ProblemParts) (tail : List Run) (first : x.first ≡ 10) (placed :
 
   pub verdict_is : (cb : List Run) → length cb ≡ 10 → whole_verdict x (cb ++ tail) ≡ whole_verdict_from None None (limit_of x cb) (is_single (cb ++ tail))
   verdict_is cb ten =
-      ap (λ (o : Option VarSet). whole_verdict_from o (hall_in x.tables Exti (contest x Exti (cb ++ tail))) (shown_limit x.tables x.facts x.clock (clock_box (cb ++ tail))) (is_single (cb ++ tail))) (no_hall Pins cb ten)
-      ∙ ap (λ (o : Option VarSet). whole_verdict_from None o (shown_limit x.tables x.facts x.clock (clock_box (cb ++ tail))) (is_single (cb ++ tail))) (no_hall Exti cb ten)
+      ap (λ (o : Option VarSet). whole_verdict_from o (hall_in x.tables Exti (contest x Exti (cb ++ tail))) (refuting_limit x.tables x.facts x.clock (clock_box (cb ++ tail))) (is_single (cb ++ tail))) (no_hall Pins cb ten)
+      ∙ ap (λ (o : Option VarSet). whole_verdict_from None o (refuting_limit x.tables x.facts x.clock (clock_box (cb ++ tail))) (is_single (cb ++ tail))) (no_hall Exti cb ten)
       ∙ ap (λ (o : Option ℕ). whole_verdict_from None None o (is_single (cb ++ tail))) (limit_is cb ten)
 
-  pub limit_shown : (cb : List Run) (k : ℕ) → length cb ≡ 10 → limit_of x cb ≡ Some k → shows_whole x (Limit k) (cb ++ tail) ≡ true
-  limit_shown cb k ten e = limit_shows x.tables x.facts x.clock (clock_box (cb ++ tail)) k (limit_is cb ten ∙ e)
+  pub limit_is_refuting : (cb : List Run) (k : ℕ) → length cb ≡ 10 → limit_of x cb ≡ Some k → refutes_whole x (Limit k) (cb ++ tail) ≡ true
+  limit_is_refuting cb k ten e = limits_refute x.tables x.facts x.clock (clock_box (cb ++ tail)) k (limit_is cb ten ∙ e)
 
 -- ---- the trees
 
@@ -120,7 +120,7 @@ module _
       let h = bad_limit (limit_of w cb) (is_single (cb ++ whole ones)) reason (sym (f_verdict cb b) ∙ e) in
       let is : reason ≡ Limit h.0 = h.2 in
       let bad : whole_verdict w (cb ++ whole pins) ≡ Bad (Limit h.0) = w_verdict cb b ∙ still_bad (limit_of w cb) (is_single (cb ++ whole pins)) h.0 h.1 in
-      subst (λ (r : Reason). IsKept (BadLeaf r) cb) (sym is) ((refl, bad), limit_shown w (whole pins) w_first w_placed cb h.0 (ten_runs cb b) h.1)
+      subst (λ (r : Reason). IsKept (BadLeaf r) cb) (sym is) ((refl, bad), limit_is_refuting w (whole pins) w_first w_placed cb h.0 (ten_runs cb b) h.1)
 
   no_witness : {A : Type 0} (cb : List Run) → IsBox clocks cb → NotBad (whole_verdict f (cb ++ whole ones)) → is_single (cb ++ whole ones) ≡ true → A
   no_witness cb b fine single =

@@ -6,7 +6,7 @@ use Rattle.res_base.specs.declared.var_set.VarSet.{VarSet}
 use Rattle.res_base.specs.Sums.{sum_below, one_if}
 use Rattle.res_base.specs.VarSet.{in_set}
 use Rattle.res_base.proofs.SumLemmas.{some_below}
-use Rattle.box_rules.specs.Contest.{Contestant, is_contestant, resources_of, shows_hall}
+use Rattle.box_rules.specs.Contest.{Contestant, is_contestant, resources_of, hall_refutes}
 use Rattle.box_rules.proofs.CountLemmas.{both, yes}
 use Rattle.pin_match.specs.Hall.{any_below}
 use Rattle.refutation.specs.Forms.{form_of}
@@ -23,24 +23,24 @@ use Rattle.search_api.specs.declared.verdict.Reason.{Reason}
 use Rattle.search_api.specs.declared.verdict.Reason.TheVariants.{Hall}
 use Rattle.search_api.specs.declared.verdict.Verdict.TheVariants.{Bad}
 
--- what shows a box has a member
-pub has_members : (t : TableParts) (class : Class) (cs : List Contestant) (vars : VarSet) → shows_hall t class cs vars ≡ true → ((v : ℕ) → in_set vars v ≡ true → v < 170) → HasMembers vars
-unfolding shows_hall
-has_members t class cs vars shown small =
-    let b = both (not (any_below 192 (λ v. in_set vars v && not (is_contestant cs v)))) (nat_lt (resources_of t class cs vars) (sum_below 192 (λ v. one_if (in_set vars v)))) shown in
+-- what refutes a box has a member
+pub has_members : (t : TableParts) (class : Class) (cs : List Contestant) (vars : VarSet) → hall_refutes t class cs vars ≡ true → ((v : ℕ) → in_set vars v ≡ true → v < 170) → HasMembers vars
+unfolding hall_refutes
+has_members t class cs vars refuted small =
+    let b = both (not (any_below 192 (λ v. in_set vars v && not (is_contestant cs v)))) (nat_lt (resources_of t class cs vars) (sum_below 192 (λ v. one_if (in_set vars v)))) refuted in
     let l : resources_of t class cs vars < sum_below 192 (λ v. one_if (in_set vars v)) = grind (arith, nat_tests, b.1) in
     let r = some_below 192 (λ v. one_if (in_set vars v)) (omega (arith, l)) in
     record { some = (r.0, r.1, yes (in_set vars r.0) r.2); variables = λ v less e. small v e }
 
 -- a judge of no variables that has one reason for all
 abbrev always : Reason → Meaning
-always r = record { shape = []; legal = λ c. false; shows = λ s box. true; verdict = λ box. Bad r }
+always r = record { shape = []; legal = λ c. false; refutes = λ s box. true; verdict = λ box. Bad r }
 
 is_lawful : (r : Reason) → IsLawful (always r)
 is_lawful r = record {
   is_shape = record { few = omega arith; positions = tt; small = tt; narrow = omega arith };
   none_legal = λ reason box b e choice c lies ok. absurd cc;
-  bad_shows = λ reason box b e. refl;
+  bad_refutes = λ reason box b e. refl;
   legal_is_one = λ box b e. absurd cc;
   open_has_two = λ box b e. absurd cc;
 }

@@ -9,13 +9,13 @@ use Rattle.res_base.proofs.SumLemmas.{le_or}
 use Rattle.choice_rank.specs.Choices.{IsChoice}
 use Rattle.choice_rank.specs.Least.{NoneLegal}
 use Rattle.choice_rank.specs.declared.variable.VarShape.{VarShape}
-use Rattle.box_rules.specs.Contest.{Contestant, contestants, hall_in, named, shows_hall, variable_at, wants}
+use Rattle.box_rules.specs.Contest.{Contestant, contestants, hall_in, named, hall_refutes, variable_at, wants}
 use Rattle.box_rules.specs.Judged.{clock_box, contest, pin_meaning, pin_verdict, verdict_from, whole_meaning, whole_verdict, whole_verdict_from}
 use Rattle.box_rules.proofs.ContestLemmas.{most_variable}
 use Rattle.box_rules.proofs.CountLemmas.{both, some_any}
-use Rattle.box_rules.proofs.JudgeLemmas.{hall_shows}
+use Rattle.box_rules.proofs.JudgeLemmas.{found_hall_refutes}
 use Rattle.box_split.specs.Boxes.{Run, is_single, whole}
-use Rattle.clock_limits.specs.Ranges.{shown_limit}
+use Rattle.clock_limits.specs.Ranges.{refuting_limit}
 use Rattle.pin_match.specs.Largest.{hall_of}
 use Rattle.pin_match.specs.Hall.{any_below}
 use Rattle.pin_match.proofs.WordLemmas.{in_words, set_test}
@@ -163,16 +163,16 @@ module _ (t : TableParts) (p : Project) (opts : Opts) (board : IsBoard t p opts)
   hall_leaf class vars nodes hall pins all c =
       let tree : c.tree ≡ BadLeaf (Hall class vars) = leaf_is (pin_meaning (pins_of t p opts)) c.tree (whole (pins_of t p opts).shape) (Hall class vars) pins c.canonical in
       let is : node.Bad (Hall class vars) ∷ [] ≡ nodes = ap nodes_of (sym tree) ∙ c.nodes_are in
-      let shown : shows_hall (whole_of t p opts).tables class (contest (whole_of t p opts) class (whole (whole_of t p opts).shape)) (raised_set vars) ≡ true =
-      ap (λ (x : TableParts). shows_hall x class (contest (whole_of t p opts) class (whole (whole_of t p opts).shape)) (raised_set vars)) whole_tables
-      ∙ ap (λ (cs : List Contestant). shows_hall t class cs (raised_set vars)) (whole_contest class)
-      ∙ hall_shows t class 10 uses rs (boards.few_uses t p opts board) (raised_set vars) (hall_raised t class uses rs (boards.inside t p opts board) ∙ ap (option_map raised_set) hall) in
+      let refuted : hall_refutes (whole_of t p opts).tables class (contest (whole_of t p opts) class (whole (whole_of t p opts).shape)) (raised_set vars) ≡ true =
+      ap (λ (x : TableParts). hall_refutes x class (contest (whole_of t p opts) class (whole (whole_of t p opts).shape)) (raised_set vars)) whole_tables
+      ∙ ap (λ (cs : List Contestant). hall_refutes t class cs (raised_set vars)) (whole_contest class)
+      ∙ found_hall_refutes t class 10 uses rs (boards.few_uses t p opts board) (raised_set vars) (hall_raised t class uses rs (boards.inside t p opts board) ∙ ap (option_map raised_set) hall) in
       let low : IsLowSet vars = low_vars t class uses rs vars few hall in
       subst IsLeaf is record {
         canonical = record { tree = BadLeaf (Hall class (raised_set vars)); nodes_are = refl; canonical = (refl, all) };
-        accepted = record { tree = BadLeaf (Hall class (raised_set vars)); nodes_are = refl; accepts = shown; witness = tt };
+        accepted = record { tree = BadLeaf (Hall class (raised_set vars)); nodes_are = refl; accepts = refuted; witness = tt };
         low = (low, tt);
-        read = read_leaf class (raised_set vars) (has_members (whole_of t p opts).tables class (contest (whole_of t p opts) class (whole (whole_of t p opts).shape)) (raised_set vars) shown (λ v e. raised_small vars low v e));
+        read = read_leaf class (raised_set vars) (has_members (whole_of t p opts).tables class (contest (whole_of t p opts) class (whole (whole_of t p opts).shape)) (raised_set vars) refuted (λ v e. raised_small vars low v e));
         is_hall = record { class = class; vars = vars; is = refl };
       }
 
@@ -190,7 +190,7 @@ module _ (t : TableParts) (p : Project) (opts : Opts) (board : IsBoard t p opts)
         let w : ProblemParts = whole_of t p opts in
         let lines_q : Option VarSet = hall_in q.tables Exti (contest q Exti (whole q.shape)) in
         let lines_w : Option VarSet = hall_in w.tables Exti (contest w Exti (whole w.shape)) in
-        let limit : Option ℕ = shown_limit w.tables w.facts w.clock (clock_box (whole w.shape)) in
+        let limit : Option ℕ = refuting_limit w.tables w.facts w.clock (clock_box (whole w.shape)) in
         hall_leaf Pins vars nodes e
         (ap (λ (o : Option VarSet). verdict_from o lines_q (is_single (whole q.shape))) (pins_hall Pins ∙ e))
         (ap (λ (o : Option VarSet). whole_verdict_from o lines_w limit (is_single (whole w.shape))) (whole_hall Pins ∙ ap (option_map raised_set) e))
@@ -200,7 +200,7 @@ module _ (t : TableParts) (p : Project) (opts : Opts) (board : IsBoard t p opts)
         let w : ProblemParts = whole_of t p opts in
         let lines_q : Option VarSet = hall_in q.tables Exti (contest q Exti (whole q.shape)) in
         let lines_w : Option VarSet = hall_in w.tables Exti (contest w Exti (whole w.shape)) in
-        let limit : Option ℕ = shown_limit w.tables w.facts w.clock (clock_box (whole w.shape)) in
+        let limit : Option ℕ = refuting_limit w.tables w.facts w.clock (clock_box (whole w.shape)) in
         let none_q = ap (λ (o : Option VarSet). verdict_from o lines_q (is_single (whole q.shape))) (pins_hall Pins ∙ e) in
         let none_w = ap (λ (o : Option VarSet). whole_verdict_from o lines_w limit (is_single (whole w.shape))) (whole_hall Pins ∙ ap (option_map raised_set) e) in
         hall_leaf Exti vars nodes f

@@ -40,8 +40,8 @@ same_reason p box other e =
     ap (λ (rs : List Run). reason_from (hall_in p.tables Pins (contestants Pins p.first p.uses rs)) (hall_in p.tables Exti (contestants Exti p.first p.uses rs))) e
 
 -- what was kept for a box is right for one with the same signals
-pub kept_holds : (p : ProblemParts) (a b : BoxBuf) (shown : Option Reason) → shown ≡ hall_reason p (box_in p.shape a) → drop p.first (box_in p.shape a) ≡ drop p.first (box_in p.shape b) → shown ≡ hall_reason p (box_in p.shape b)
-kept_holds p a b shown is e = is ∙ same_reason p (box_in p.shape a) (box_in p.shape b) e
+pub kept_holds : (p : ProblemParts) (a b : BoxBuf) (refuting : Option Reason) → refuting ≡ hall_reason p (box_in p.shape a) → drop p.first (box_in p.shape a) ≡ drop p.first (box_in p.shape b) → refuting ≡ hall_reason p (box_in p.shape b)
+kept_holds p a b refuting is e = is ∙ same_reason p (box_in p.shape a) (box_in p.shape b) e
 
 module _ (p : ProblemParts) (w : IsWhole p) (a b : BoxBuf) where
   -- where the signals have the same positions in two boxes, they have the same runs

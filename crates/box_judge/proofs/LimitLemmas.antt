@@ -6,7 +6,7 @@ use Rattle.box_split.specs.Boxes.{IsBox, highs, lows}
 use Rattle.choice_rank.specs.declared.variable.VarShape.{VarShape}
 use Rattle.problem.specs.declared.parts.ProblemParts.{ProblemParts}
 use Rattle.res_model.specs.declared.clock.ClockBox.{ClockBox}
-use Rattle.clock_limits.specs.Ranges.{IsClockBox, shown_limit}
+use Rattle.clock_limits.specs.Ranges.{IsClockBox, refuting_limit}
 use Rattle.box_rules.specs.Judged.{IsWhole, clock_box}
 use Rattle.box_rules.proofs.ContestLemmas.{as_many_values}
 use Rattle.box_rules.proofs.WholeLemmas.{is_clock_box, sizes}
@@ -51,8 +51,8 @@ module _ (p : ProblemParts) (w : IsWhole p) (b : BoxBuf) (is_box : IsBox p.shape
         subst (λ (vs : List (List ℕ)). IsClockBox vs (clocks lo hi)) (sym values_are)
         (subst (λ (x : ClockBox). IsClockBox p.clock x) (sym read_are) (is_clock_box p w (box_in p.shape b) is_box))
 
-    pub limit_read : shown_limit q.tables q.facts values (clocks lo hi) ≡ shown_limit p.tables p.facts p.clock (clock_box (box_in p.shape b))
+    pub limit_read : refuting_limit q.tables q.facts values (clocks lo hi) ≡ refuting_limit p.tables p.facts p.clock (clock_box (box_in p.shape b))
     limit_read =
-        ap (λ (x : ProblemParts). shown_limit x.tables x.facts values (clocks lo hi)) e
-        ∙ ap (λ (vs : List (List ℕ)). shown_limit p.tables p.facts vs (clocks lo hi)) values_are
-        ∙ ap (λ (x : ClockBox). shown_limit p.tables p.facts p.clock x) read_are
+        ap (λ (x : ProblemParts). refuting_limit x.tables x.facts values (clocks lo hi)) e
+        ∙ ap (λ (vs : List (List ℕ)). refuting_limit p.tables p.facts vs (clocks lo hi)) values_are
+        ∙ ap (λ (x : ClockBox). refuting_limit p.tables p.facts p.clock x) read_are

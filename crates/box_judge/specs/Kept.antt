@@ -8,7 +8,7 @@ use Rattle.box_judge.specs.Fits.{FitsPins, hall_reason}
 
 -- what was kept is what the signals of its box show
 abbrev pub IsKept : ProblemParts → Kept → Type 0
-IsKept p k = k.shown ≡ hall_reason p (box_in p.shape k.b)
+IsKept p k = k.refuting ≡ hall_reason p (box_in p.shape k.b)
 
 pub record FitsWhole (p : ProblemParts) (room : PinClockRoom) : Type 0 where
   pub signals : FitsPins p room.signals

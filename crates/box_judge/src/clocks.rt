@@ -1,7 +1,7 @@
 //! The judge of pins and clocks.
 ghost use Rattle.std.specs.Prelude.{◌≡◌, ◌≢◌, IsOkAnd, take};
 ghost use Rattle.search_api.proofs.ShapeLemmas.{shape_prop};
-ghost use Rattle.clock_limits.specs.Ranges.{shown_limit};
+ghost use Rattle.clock_limits.specs.Ranges.{refuting_limit};
 ghost use Rattle.box_rules.specs.Judged.{IsWhole, clock_box, whole_meaning, whole_verdict};
 ghost use Rattle.box_split.specs.Boxes.{IsBox};
 ghost use Rattle.box_split.specs.BoxIn.{box_in};
@@ -91,10 +91,10 @@ fn first_ten(positions: &[u16; 170]) -> [u16; 10]
 }
 
 /// The least limit that the clock values of a box leave no room for.
-fn shown_limit(p: &Problem, b: &BoxBuf) -> Option<u8>
+fn refuting_limit(p: &Problem, b: &BoxBuf) -> Option<u8>
     requires whole { IsWhole p.now }
     requires is_box { IsBox p.now.shape (box_in p.now.shape b.now) }
-    ensures { result ≡ shown_limit p.now.tables p.now.facts p.now.clock (clock_box (box_in p.now.shape b.now)) }
+    ensures { result ≡ refuting_limit p.now.tables p.now.facts p.now.clock (clock_box (box_in p.now.shape b.now)) }
 {
     let parts = p.parts();
     let clocks = ClockBox {
@@ -115,7 +115,7 @@ fn judge_whole(p: &Problem, room: &mut PinClockRoom, b: &BoxBuf) -> Verdict
     if let Some(reason) = hall_kept(p, room, b) {
         return Verdict::Bad(reason);
     }
-    if let Some(limit) = shown_limit(p, b) {
+    if let Some(limit) = refuting_limit(p, b) {
         return Verdict::Bad(Reason::Limit(limit));
     }
     if is_single(&p.parts().shape, b) {

@@ -67,11 +67,11 @@ fn hall(p: &Problem, class: Class, room: &mut Contest, b: &BoxBuf) -> Option<Var
 }
 
 /// The signals that are too many in a box: pins are asked first, and then the lines of interrupts.
-pub(crate) fn shown_hall(p: &Problem, room: &mut PinRoom, b: &BoxBuf) -> Option<Reason>
+pub(crate) fn refuting_hall(p: &Problem, room: &mut PinRoom, b: &BoxBuf) -> Option<Reason>
     requires ready { IsReady p.now }
     requires fits { FitsPins p.now room.old }
     requires is_box { IsBox p.now.shape (box_in p.now.shape b.now) }
-    ensures shown { result ≡ hall_reason p.now (box_in p.now.shape b.now) }
+    ensures refuting { result ≡ hall_reason p.now (box_in p.now.shape b.now) }
     ensures fits { FitsPins p.now room.new }
 {
     if let Some(vars) = hall(p, Class::Pins, &mut room.pins, b) {

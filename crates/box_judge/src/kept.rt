@@ -6,7 +6,7 @@ ghost use Rattle.box_rules.specs.Judged.{IsWhole};
 ghost use Rattle.box_judge.specs.Fits.{hall_reason};
 ghost use Rattle.box_judge.specs.Kept.{FitsWhole, IsKept};
 
-use crate::halls::{PinRoom, pin_room, shown_hall};
+use crate::halls::{PinRoom, pin_room, refuting_hall};
 use box_split::BoxBuf;
 use problem::Problem;
 use res_base::OutOfMemory;
@@ -17,7 +17,7 @@ use std::alloc::Global;
 #[derive(Clone, Copy)]
 pub(crate) struct Kept {
     pub(crate) b: BoxBuf,
-    pub(crate) shown: Option<Reason>,
+    pub(crate) refuting: Option<Reason>,
 }
 
 /// Room for what competes in a box, with what the signals of the last box showed.
@@ -62,10 +62,10 @@ fn have_same_signals(p: &Problem, a: &BoxBuf, b: &BoxBuf) -> bool
 fn kept_for(p: &Problem, kept: &Option<Kept>, b: &BoxBuf) -> Option<Option<Reason>>
     requires whole { IsWhole p.now }
     requires kept { IfSome kept.now (IsKept p.now) }
-    ensures { IfSome result (λ shown. shown ≡ hall_reason p.now (box_in p.now.shape b.now)) }
+    ensures { IfSome result (λ refuting. refuting ≡ hall_reason p.now (box_in p.now.shape b.now)) }
 {
     match kept {
-        Some(kept) if have_same_signals(p, &kept.b, b) => Some(kept.shown),
+        Some(kept) if have_same_signals(p, &kept.b, b) => Some(kept.refuting),
         _ => None,
     }
 }
@@ -75,13 +75,13 @@ pub(crate) fn hall_kept(p: &Problem, room: &mut PinClockRoom, b: &BoxBuf) -> Opt
     requires whole { IsWhole p.now }
     requires fits { FitsWhole p.now room.old }
     requires is_box { IsBox p.now.shape (box_in p.now.shape b.now) }
-    ensures shown { result ≡ hall_reason p.now (box_in p.now.shape b.now) }
+    ensures refuting { result ≡ hall_reason p.now (box_in p.now.shape b.now) }
     ensures fits { FitsWhole p.now room.new }
 {
-    if let Some(shown) = kept_for(p, &room.kept, b) {
-        return shown;
+    if let Some(refuting) = kept_for(p, &room.kept, b) {
+        return refuting;
     }
-    let shown = shown_hall(p, &mut room.signals, b);
-    room.kept = Some(Kept { b: *b, shown });
-    shown
+    let refuting = refuting_hall(p, &mut room.signals, b);
+    room.kept = Some(Kept { b: *b, refuting });
+    refuting
 }

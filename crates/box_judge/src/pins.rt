@@ -7,7 +7,7 @@ ghost use Rattle.box_split.specs.BoxIn.{box_in};
 ghost use Rattle.box_judge.specs.Fits.{FitsPins};
 ghost use Rattle.box_judge.specs.Ready.{ready_prop, pin_lawful};
 
-use crate::halls::{PinRoom, pin_room, shown_hall};
+use crate::halls::{PinRoom, pin_room, refuting_hall};
 use box_split::{BoxBuf, is_single};
 use choice_rank::Shape;
 use problem::Problem;
@@ -78,7 +78,7 @@ fn judge_pins(p: &Problem, room: &mut PinRoom, b: &BoxBuf) -> Verdict
     ensures verdict { result ≡ pin_verdict p.now (box_in p.now.shape b.now) }
     ensures fits { FitsPins p.now room.new }
 {
-    match shown_hall(p, room, b) {
+    match refuting_hall(p, room, b) {
         Some(reason) => Verdict::Bad(reason),
         None if is_single(&p.parts().shape, b) => Verdict::Legal,
         None => Verdict::Open,

@@ -1,4 +1,4 @@
--- What a Hall set shows, and what a box without one has.
+-- What a Hall set refutes, and what a box without one has.
 use Rattle.std.proofs.Common.{◌≡◌, ◌≢◌, ◌⊎◌, ℕ, ◌+◌, ◌-◌, ◌<◌, ◌≤◌, ◌==◌, List, length, get_or, Bool, true, false, ◌&&◌, not, Option, Some, None, inl, inr, refl, sym, subst, ap, ◌∙◌, arith}
 use Rattle.std.specs.Prelude.{nat_lt, option_map}
 use Rattle.std.specs.List.{list_all}
@@ -22,7 +22,7 @@ use Rattle.res_model.specs.Placement.{Fits, fits, is_exti, uses_at}
 use Rattle.pin_rules.proofs.FitLemmas.{fits_sentences}
 use Rattle.search_api.specs.declared.verdict.Class.{Class}
 use Rattle.search_api.specs.declared.verdict.Class.TheVariants.{Pins, Exti}
-use Rattle.box_rules.specs.Contest.{Contestant, contestants, hall_in, is_contestant, named, resource_of, resources_of, shows_hall, variable_at, wants}
+use Rattle.box_rules.specs.Contest.{Contestant, contestants, hall_in, is_contestant, named, resource_of, resources_of, hall_refutes, variable_at, wants}
 use Rattle.box_rules.specs.Inside.{AreInside}
 use Rattle.box_rules.proofs.ContestLemmas.{IsChosen, apart_variables, chosen, few_contestants, most_variable, placed}
 use Rattle.box_rules.proofs.CountLemmas.{any_in, and_yes, both, inject, some_any}
@@ -76,11 +76,11 @@ module _ (t : TableParts) (class : Class) (first : ℕ) (uses : List (List PinUs
   at : (i : ℕ) → i < length cs → IsChosen t class first us cs (is_single rs) nothing i
   at i l = chosen t class nothing first uses rs choice inside lies i l
 
-  module _ (small : (j : ℕ) → j < length us → resource_of t class (get_or us j nothing) < 192) (vars : VarSet) (shown : shows_hall t class cs vars ≡ true) where
+  module _ (small : (j : ℕ) → j < length us → resource_of t class (get_or us j nothing) < 192) (vars : VarSet) (refuted : hall_refutes t class cs vars ≡ true) where
     parts : (any_below 192 (λ v. in_set vars v && not (is_contestant cs v)) ≡ false) × (resources_of t class cs vars < sum_below 192 (λ v. one_if (in_set vars v)))
-    unfolding shows_hall
+    unfolding hall_refutes
     parts =
-        let b = both (not (any_below 192 (λ v. in_set vars v && not (is_contestant cs v)))) (nat_lt (resources_of t class cs vars) (sum_below 192 (λ v. one_if (in_set vars v)))) shown in
+        let b = both (not (any_below 192 (λ v. in_set vars v && not (is_contestant cs v)))) (nat_lt (resources_of t class cs vars) (sum_below 192 (λ v. one_if (in_set vars v)))) refuted in
         let l : resources_of t class cs vars < sum_below 192 (λ v. one_if (in_set vars v)) = grind (arith, nat_tests, b.1) in
         (not_true (any_below 192 (λ v. in_set vars v && not (is_contestant cs v))) b.0, l)
 
@@ -156,7 +156,7 @@ module _ (t : TableParts) (class : Class) (first : ℕ) (uses : List (List PinUs
         let twice : a.0 ≡ b.0 = full.1.apart a.0 b.0 ga.0 a.1 b.1 ga.1 (gb.1 ∙ ap Some (sym one)) in
         omega (arith, l, a.2, b.2, ap (variable_at (contestants class first uses rs)) twice)
 
--- ---- the set that is computed shows the box
+-- ---- the set that is computed refutes the box
 
 module _ (t : TableParts) (class : Class) (first : ℕ) (uses : List (List PinUse)) (rs : List Run) (few : first + length uses ≤ 192) where
   abbrev pub those : List Contestant
@@ -216,24 +216,24 @@ module _ (t : TableParts) (class : Class) (first : ℕ) (uses : List (List PinUs
     as_many : sum_below (length those) (λ i. one_if (in_set s i)) ≤ sum_below 192 (λ v. one_if (in_set (named those s) v))
     as_many = inject (length those) 192 (in_set s) (in_set (named those s)) (variable_at those) (λ i l e. (below i l, in_both i l e)) (λ i j l k e q same. apart_variables class first uses rs i j l k same)
 
-    named_shows : shows_hall t class those (named those s) ≡ true
-    unfolding shows_hall
-    named_shows =
+    named_refutes : hall_refutes t class those (named those s) ≡ true
+    unfolding hall_refutes
+    named_refutes =
         let less : resources_of t class those (named those s) < sum_below 192 (λ v. one_if (in_set (named those s) v)) = chain (resources_of t class those (named those s)) (sum_below 192 (λ r. one_if (is_wanted (length those) (wants t class those) s r))) (sum_below (length those) (λ i. one_if (in_set s i))) (sum_below 192 (λ v. one_if (in_set (named those s) v))) no_more hall.more as_many in
         let l : nat_lt (resources_of t class those (named those s)) (sum_below 192 (λ v. one_if (in_set (named those s) v))) ≡ true = grind (arith, nat_tests, less) in
         and_yes (not (any_below 192 (λ v. in_set (named those s) v && not (is_contestant those v)))) (nat_lt (resources_of t class those (named those s)) (sum_below 192 (λ v. one_if (in_set (named those s) v)))) (ap not compete) l
 
-  computed_shows : (o : Option VarSet) (vars : VarSet) → hall_of (length those) 192 (wants t class those) ≡ o → option_map (named those) o ≡ Some vars → shows_hall t class those vars ≡ true
-  computed_shows None vars e h = let q : ◌≡◌ {A = Option VarSet} None (Some vars) = h in cc
-  computed_shows (Some s) vars e h =
+  computed_refutes : (o : Option VarSet) (vars : VarSet) → hall_of (length those) 192 (wants t class those) ≡ o → option_map (named those) o ≡ Some vars → hall_refutes t class those vars ≡ true
+  computed_refutes None vars e h = let q : ◌≡◌ {A = Option VarSet} None (Some vars) = h in cc
+  computed_refutes (Some s) vars e h =
       let q : ◌≡◌ {A = Option VarSet} (Some (named those s)) (Some vars) = h in
       let same : named those s ≡ vars = cc (q) in
-      subst (λ (x : VarSet). shows_hall t class those x ≡ true) same
-      (named_shows s (some_is_hall (length those) 192 (wants t class those) s (omega (arith, few_contestants class first uses rs, few)) e))
+      subst (λ (x : VarSet). hall_refutes t class those x ≡ true) same
+      (named_refutes s (some_is_hall (length those) 192 (wants t class those) s (omega (arith, few_contestants class first uses rs, few)) e))
 
-  pub hall_shows : (vars : VarSet) → hall_in t class those ≡ Some vars → shows_hall t class those vars ≡ true
+  pub found_hall_refutes : (vars : VarSet) → hall_in t class those ≡ Some vars → hall_refutes t class those vars ≡ true
   unfolding hall_in
-  hall_shows vars h = computed_shows (hall_of (length those) 192 (wants t class those)) vars refl h
+  found_hall_refutes vars h = computed_refutes (hall_of (length those) 192 (wants t class those)) vars refl h
 
   none_at : (o : Option VarSet) → hall_of (length those) 192 (wants t class those) ≡ o → option_map (named those) o ≡ None → IsFull (length those) 192 (wants t class those)
   none_at None e h = none_is_full (length those) 192 (wants t class those) e

@@ -19,12 +19,12 @@ use Rattle.search_api.specs.declared.verdict.Reason.{Reason}
 use Rattle.search_api.specs.declared.verdict.Reason.TheVariants.{Hall, Limit}
 use Rattle.search_api.specs.declared.verdict.Verdict.TheVariants.{Bad, Legal, Open}
 use Rattle.search_api.specs.Meaning.{IsLawful}
-use Rattle.box_rules.specs.Contest.{hall_in, resource_of, shows_hall}
-use Rattle.box_rules.specs.Judged.{HasResources, IsReady, contest, pin_meaning, shows_pins, verdict_from}
+use Rattle.box_rules.specs.Contest.{hall_in, resource_of, hall_refutes}
+use Rattle.box_rules.specs.Judged.{HasResources, IsReady, contest, pin_meaning, refutes_pins, verdict_from}
 use Rattle.box_rules.specs.Inside.{AreInside}
 use Rattle.box_rules.proofs.ContestLemmas.{as_many_values, box_drop, box_inside, lies_drop, lows_lie, single_drop, use_has}
 use Rattle.box_rules.proofs.CountLemmas.{both}
-use Rattle.box_rules.proofs.JudgeLemmas.{hall_shows, kept_apart, no_choice_fits, none_full, nothing}
+use Rattle.box_rules.proofs.JudgeLemmas.{found_hall_refutes, kept_apart, no_choice_fits, none_full, nothing}
 
 small_of : (t : TableParts) (class : Class) (u : PinUse) → HasResources t u → resource_of t class u < 192
 small_of t Pins u h = h.0
@@ -69,13 +69,13 @@ module _ (p : ProblemParts) (ready : IsReady p) where
         small_of p.tables class (get_or (uses_at p.uses (drop p.first choice)) j nothing)
         (use_has (HasResources p.tables) nothing p.uses (drop p.first box) (drop p.first choice) inside (lies_drop p.first box choice lies) ready.resources j l)
 
-    -- a Hall set that shows the box leaves no choice whose pins fit
-    pub hall_none : (class : Class) (vars : VarSet) → shows_hall p.tables class (contest p class box) vars ≡ true → (choice : List ℕ) → LiesIn box choice → fits p.tables (uses_at p.uses (drop p.first choice)) ≡ true → ⊥
-    hall_none class vars shown choice lies ok =
-        no_choice_fits p.tables class p.first p.uses (drop p.first box) (drop p.first choice) inside (lies_drop p.first box choice lies) (small class choice lies) vars shown ok
+    -- a Hall set that refutes the box leaves no choice whose pins fit
+    pub hall_none : (class : Class) (vars : VarSet) → hall_refutes p.tables class (contest p class box) vars ≡ true → (choice : List ℕ) → LiesIn box choice → fits p.tables (uses_at p.uses (drop p.first choice)) ≡ true → ⊥
+    hall_none class vars refuted choice lies ok =
+        no_choice_fits p.tables class p.first p.uses (drop p.first box) (drop p.first choice) inside (lies_drop p.first box choice lies) (small class choice lies) vars refuted ok
 
-    pub hall_bad : (class : Class) (vars : VarSet) → hall_in p.tables class (contest p class box) ≡ Some vars → shows_hall p.tables class (contest p class box) vars ≡ true
-    hall_bad class vars e = hall_shows p.tables class p.first p.uses (drop p.first box) few vars e
+    pub hall_bad : (class : Class) (vars : VarSet) → hall_in p.tables class (contest p class box) ≡ Some vars → hall_refutes p.tables class (contest p class box) vars ≡ true
+    hall_bad class vars e = found_hall_refutes p.tables class p.first p.uses (drop p.first box) few vars e
 
     -- one choice without a Hall set of either class: its pins fit
     module _ (single : is_single box ≡ true) (pins : hall_in p.tables Pins (contest p Pins box) ≡ None) (lines : hall_in p.tables Exti (contest p Exti box) ≡ None) where
@@ -112,15 +112,15 @@ module _ (p : ProblemParts) (ready : IsReady p) where
       let t : (p.first == 0) ≡ true = grind (arith, nat_tests, zero_first) in
       rw (e, t) refl
 
-  shown_none : (reason : Reason) (box : List Run) → IsBox p.shape box → shows_pins p reason box ≡ true → (choice : List ℕ) → LiesIn box choice → meets p choice ≡ true → ⊥
-  shown_none (Hall class vars) box b h choice lies m = hall_none box b class vars h choice lies (meets_fits choice m)
-  shown_none (Limit k) box b h choice lies m = let q : false ≡ true = h in cc
+  refuted_none : (reason : Reason) (box : List Run) → IsBox p.shape box → refutes_pins p reason box ≡ true → (choice : List ℕ) → LiesIn box choice → meets p choice ≡ true → ⊥
+  refuted_none (Hall class vars) box b h choice lies m = hall_none box b class vars h choice lies (meets_fits choice m)
+  refuted_none (Limit k) box b h choice lies m = let q : false ≡ true = h in cc
 
   pub pin_lawful : p.first ≡ 0 → IsLawful (pin_meaning p)
   pin_lawful pins_only = record {
     is_shape = ready.shape;
-    none_legal = λ reason box b h choice c lies m. shown_none reason box b h choice lies m;
-    bad_shows = λ reason box b e. bad_from (hall_in p.tables Pins (contest p Pins box)) (hall_in p.tables Exti (contest p Exti box)) (is_single box) reason (λ r. shows_pins p r box ≡ true) (hall_bad box b Pins) (hall_bad box b Exti) e;
+    none_legal = λ reason box b h choice c lies m. refuted_none reason box b h choice lies m;
+    bad_refutes = λ reason box b e. bad_from (hall_in p.tables Pins (contest p Pins box)) (hall_in p.tables Exti (contest p Exti box)) (is_single box) reason (λ r. refutes_pins p r box ≡ true) (hall_bad box b Pins) (hall_bad box b Exti) e;
     legal_is_one = λ box b e.
         let h = legal_from (hall_in p.tables Pins (contest p Pins box)) (hall_in p.tables Exti (contest p Exti box)) (is_single box) e in
         (h.2, fits_meets pins_only (lows box) (lows_fit box b h.2 h.0 h.1));

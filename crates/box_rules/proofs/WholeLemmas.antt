@@ -5,9 +5,9 @@ use Rattle.std.proofs.lemmas.Bool.Decides.{nat_tests}
 use Rattle.res_base.specs.declared.var_set.VarSet.{VarSet}
 use Rattle.box_split.specs.Boxes.{Run, IsBox, LiesIn, is_single, lows}
 use Rattle.clock_limits.specs.Laws.{IsLeastBroken}
-use Rattle.clock_limits.proofs.ShownLemmas.{shown_is_broken}
+use Rattle.clock_limits.proofs.RefutingLemmas.{refuting_is_broken}
 use Rattle.clock_limits.proofs.SingleLemmas.{one_choice_is_exact}
-use Rattle.clock_limits.proofs.LeastLemmas.{broken_is_least, shown_is_least}
+use Rattle.clock_limits.proofs.LeastLemmas.{broken_is_least, refuting_is_least}
 use Rattle.problem.specs.declared.parts.ProblemParts.{ProblemParts}
 use Rattle.problem.specs.ClockValues.{clock_at}
 use Rattle.problem.specs.Meets.{meets}
@@ -15,14 +15,14 @@ use Rattle.problem.specs.Problem.{HaveValues}
 use Rattle.res_model.specs.declared.clock.ClockChoice.{ClockChoice}
 use Rattle.res_model.specs.Limits.{broken_limit, meets_limit}
 use Rattle.res_model.specs.Placement.{fits, uses_at}
-use Rattle.clock_limits.specs.Ranges.{IsClockBox, IsIn, IsOnePlace, shows_limit, shown_limit}
+use Rattle.clock_limits.specs.Ranges.{IsClockBox, IsIn, IsOnePlace, limit_refutes, refuting_limit}
 use Rattle.search_api.specs.declared.verdict.Class.TheVariants.{Pins, Exti}
 use Rattle.search_api.specs.declared.verdict.Reason.{Reason}
 use Rattle.search_api.specs.declared.verdict.Reason.TheVariants.{Hall, Limit}
 use Rattle.search_api.specs.declared.verdict.Verdict.TheVariants.{Bad, Legal, Open}
 use Rattle.search_api.specs.Meaning.{IsLawful}
 use Rattle.box_rules.specs.Contest.{hall_in}
-use Rattle.box_rules.specs.Judged.{IsWhole, clock_box, contest, shows_whole, whole_meaning, whole_verdict_from}
+use Rattle.box_rules.specs.Judged.{IsWhole, clock_box, contest, refutes_whole, whole_meaning, whole_verdict_from}
 use Rattle.box_rules.proofs.ClockLemmas.{IsPlaced, clock_in, one_at, placed_at}
 use Rattle.box_rules.proofs.ContestLemmas.{lows_lie}
 use Rattle.box_rules.proofs.CountLemmas.{both}
@@ -104,38 +104,38 @@ module _ (p : ProblemParts) (w : IsWhole p) where
     in_box : (choice : List ℕ) → LiesIn box choice → IsIn (clock_at p.clock choice) p.clock (clock_box box)
     in_box choice lies = clock_in p.clock (clock_box box) choice w.clock.in_range (placed choice lies)
 
-    -- a limit that is shown leaves no choice that meets all
-    pub limit_none : (k : ℕ) → shows_limit p.tables p.facts p.clock (clock_box box) k ≡ true → (choice : List ℕ) → LiesIn box choice → meets p choice ≡ true → ⊥
-    limit_none k shown choice lies m =
+    -- a limit that is refuted leaves no choice that meets all
+    pub limit_none : (k : ℕ) → limit_refutes p.tables p.facts p.clock (clock_box box) k ≡ true → (choice : List ℕ) → LiesIn box choice → meets p choice ≡ true → ⊥
+    limit_none k refuted choice lies m =
         let c : ClockChoice = clock_at p.clock choice in
         let all = meets_all choice m in
         contradict (meets_limit p.tables p.facts c k) (all k)
-        (shown_is_broken p.tables p.facts p.clock (clock_box box) k w.clock.in_range is_clock_box shown c (in_box choice lies) (all 14))
+        (refuting_is_broken p.tables p.facts p.clock (clock_box box) k w.clock.in_range is_clock_box refuted c (in_box choice lies) (all 14))
 
-    limit_bad : (k : ℕ) → shown_limit p.tables p.facts p.clock (clock_box box) ≡ Some k → shows_limit p.tables p.facts p.clock (clock_box box) k ≡ true
+    limit_bad : (k : ℕ) → refuting_limit p.tables p.facts p.clock (clock_box box) ≡ Some k → limit_refutes p.tables p.facts p.clock (clock_box box) k ≡ true
     limit_bad k e =
-        let least = subst (λ (o : Option ℕ). IsLeastBroken (λ j. not (shows_limit p.tables p.facts p.clock (clock_box box) j)) o) e (shown_is_least p.tables p.facts p.clock (clock_box box)) in
-        not_false (shows_limit p.tables p.facts p.clock (clock_box box) k) least.1
+        let least = subst (λ (o : Option ℕ). IsLeastBroken (λ j. not (limit_refutes p.tables p.facts p.clock (clock_box box) j)) o) e (refuting_is_least p.tables p.facts p.clock (clock_box box)) in
+        not_false (limit_refutes p.tables p.facts p.clock (clock_box box) k) least.1
 
-    -- one choice with no limit shown breaks none
-    lows_break_none : is_single box ≡ true → shown_limit p.tables p.facts p.clock (clock_box box) ≡ None → broken_limit p.tables p.facts (clock_at p.clock (lows box)) ≡ None
+    -- one choice with no limit refuted breaks none
+    lows_break_none : is_single box ≡ true → refuting_limit p.tables p.facts p.clock (clock_box box) ≡ None → broken_limit p.tables p.facts (clock_at p.clock (lows box)) ≡ None
     lows_break_none single none =
         let one : IsOnePlace (clock_box box) = λ k l. one_at 10 p.shape box is_box single k in
         sym (one_choice_is_exact p.tables p.facts p.clock (clock_box box) w.clock.in_range is_clock_box one (clock_at p.clock (lows box)) (in_box (lows box) (lows_lie p.shape box is_box))) ∙ none
 
-  shown_none : (reason : Reason) (box : List Run) → IsBox p.shape box → shows_whole p reason box ≡ true → (choice : List ℕ) → LiesIn box choice → meets p choice ≡ true → ⊥
-  shown_none (Hall class vars) box b h choice lies m = hall_none p w.ready box b class vars h choice lies (meets_fits p w.ready choice m)
-  shown_none (Limit k) box b h choice lies m = limit_none box b k h choice lies m
+  refuted_none : (reason : Reason) (box : List Run) → IsBox p.shape box → refutes_whole p reason box ≡ true → (choice : List ℕ) → LiesIn box choice → meets p choice ≡ true → ⊥
+  refuted_none (Hall class vars) box b h choice lies m = hall_none p w.ready box b class vars h choice lies (meets_fits p w.ready choice m)
+  refuted_none (Limit k) box b h choice lies m = limit_none box b k h choice lies m
 
   pub whole_lawful : IsLawful (whole_meaning p)
   whole_lawful = record {
     is_shape = w.ready.shape;
-    none_legal = λ reason box b h choice c lies m. shown_none reason box b h choice lies m;
-    bad_shows = λ reason box b e.
-        bad_from (hall_in p.tables Pins (contest p Pins box)) (hall_in p.tables Exti (contest p Exti box)) (shown_limit p.tables p.facts p.clock (clock_box box)) (is_single box) reason (λ r. shows_whole p r box ≡ true)
+    none_legal = λ reason box b h choice c lies m. refuted_none reason box b h choice lies m;
+    bad_refutes = λ reason box b e.
+        bad_from (hall_in p.tables Pins (contest p Pins box)) (hall_in p.tables Exti (contest p Exti box)) (refuting_limit p.tables p.facts p.clock (clock_box box)) (is_single box) reason (λ r. refutes_whole p r box ≡ true)
         (hall_bad p w.ready box b Pins) (hall_bad p w.ready box b Exti) (limit_bad box b) e;
     legal_is_one = λ box b e.
-        let h = legal_from (hall_in p.tables Pins (contest p Pins box)) (hall_in p.tables Exti (contest p Exti box)) (shown_limit p.tables p.facts p.clock (clock_box box)) (is_single box) e in
+        let h = legal_from (hall_in p.tables Pins (contest p Pins box)) (hall_in p.tables Exti (contest p Exti box)) (refuting_limit p.tables p.facts p.clock (clock_box box)) (is_single box) e in
         (h.3, fits_meets (lows box) (lows_fit p w.ready box b h.3 h.0 h.1) (lows_break_none box b h.3 h.2));
-    open_has_two = λ box b e. open_from (hall_in p.tables Pins (contest p Pins box)) (hall_in p.tables Exti (contest p Exti box)) (shown_limit p.tables p.facts p.clock (clock_box box)) (is_single box) e;
+    open_has_two = λ box b e. open_from (hall_in p.tables Pins (contest p Pins box)) (hall_in p.tables Exti (contest p Exti box)) (refuting_limit p.tables p.facts p.clock (clock_box box)) (is_single box) e;
   }

@@ -71,8 +71,8 @@ abbrev pub resources_of : TableParts → Class → List Contestant → VarSet �
 resources_of t class cs vars = sum_below 192 (λ r. one_if (any_below (length cs) (λ i. in_set vars (variable_at cs i) && wants t class cs i r)))
 
 -- the variables all compete, and are more than the resources that they have together
-unfoldable pub shows_hall : TableParts → Class → List Contestant → VarSet → Bool
-shows_hall t class cs vars =
+unfoldable pub hall_refutes : TableParts → Class → List Contestant → VarSet → Bool
+hall_refutes t class cs vars =
     not (any_below 192 (λ v. in_set vars v && not (is_contestant cs v)))
     && nat_lt (resources_of t class cs vars) (sum_below 192 (λ v. one_if (in_set vars v)))
 

@@ -6,12 +6,12 @@ ghost use Rattle.problem.specs.declared.parts.ProblemParts.{ProblemParts};
 ghost use Rattle.res_model.specs.Placement.{fits, uses_at};
 ghost use Rattle.search_api.specs.declared.verdict.Class.{Class};
 ghost use Rattle.search_api.specs.Meaning.{IsLawful};
-ghost use Rattle.box_rules.specs.Contest.{shows_hall};
+ghost use Rattle.box_rules.specs.Contest.{hall_refutes};
 ghost use Rattle.box_rules.specs.Judged.{IsReady, IsWhole, contest, pin_meaning, whole_meaning};
 
-/// No choice of a box that a Hall set shows has pins that fit.
-pub fn shown_hall_leaves_none()
-    ensures { (p : ProblemParts) → IsReady p → (b : List Run) → IsBox p.shape b → (class : Class) (vars : VarSet) → shows_hall p.tables class (contest p class b) vars ≡ true
+/// No choice of a box that a Hall set refutes has pins that fit.
+pub fn refuting_hall_leaves_none()
+    ensures { (p : ProblemParts) → IsReady p → (b : List Run) → IsBox p.shape b → (class : Class) (vars : VarSet) → hall_refutes p.tables class (contest p class b) vars ≡ true
         → (choice : List ℕ) → LiesIn b choice → fits p.tables (uses_at p.uses (drop p.first choice)) ≡ true → ⊥ }
 {}
 

@@ -125,12 +125,12 @@ module _ (q : Request) (box : List Run) (b : IsBox can_shape box) where
   limit_refutes : (k : ℕ) (before after : List ℕ) → (can_meaning q).verdict box ≡ verdict.Bad (Limit k) → after ≡ before ++ form_text (LimitForm k) ++ 10 ∷ [] → IsRefuted (can_meaning q) box before after
   limit_refutes k before after v e =
       let lawful = can_lawful q in
-      let shown = lawful.bad_shows (Limit k) box b v in
+      let refuted = lawful.bad_refutes (Limit k) box b v in
       record {
         tree = BadLeaf (Limit k);
         canonical = (refl, v);
-        accepts = shown;
-        none_legal = λ c i l s. lawful.none_legal (Limit k) box b shown c i l s;
+        accepts = refuted;
+        none_legal = λ c i l s. lawful.none_legal (Limit k) box b refuted c i l s;
         text_is = e ∙ append_assoc before (form_text (LimitForm k)) (10 ∷ []);
       }
 

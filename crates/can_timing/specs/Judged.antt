@@ -50,4 +50,4 @@ abbrev pub legal : Request → List ℕ → Bool
 legal q choice = serves q (timing_of choice)
 
 abbrev pub can_meaning : Request → Meaning
-can_meaning q = record { shape = can_shape; legal = legal q; shows = refutes q; verdict = can_verdict q }
+can_meaning q = record { shape = can_shape; legal = legal q; refutes = refutes q; verdict = can_verdict q }

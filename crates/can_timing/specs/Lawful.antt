@@ -230,17 +230,17 @@ module _ (q : Request) where
     | inr y ↦ point_none box b y choice i l
   ]
 
-  bad_shows : (rate point single : Bool) (box : List Run) (r : Reason) → refutes_rate q box ≡ rate → refutes_point q box ≡ point → verdict_from rate point single ≡ verdict.Bad r → refutes q r box ≡ true
-  bad_shows true point single box r e f h = let is : Limit 3 ≡ r = bad_is (Limit 3) r h in subst (λ x. refutes q x box ≡ true) is e
+  bad_refutes : (rate point single : Bool) (box : List Run) (r : Reason) → refutes_rate q box ≡ rate → refutes_point q box ≡ point → verdict_from rate point single ≡ verdict.Bad r → refutes q r box ≡ true
+  bad_refutes true point single box r e f h = let is : Limit 3 ≡ r = bad_is (Limit 3) r h in subst (λ x. refutes q x box ≡ true) is e
     where
       bad_is : (a b : Reason) → verdict.Bad a ≡ verdict.Bad b → a ≡ b
       bad_is a b k = cc
-  bad_shows false true single box r e f h = let is : Limit 4 ≡ r = bad_is (Limit 4) r h in subst (λ x. refutes q x box ≡ true) is f
+  bad_refutes false true single box r e f h = let is : Limit 4 ≡ r = bad_is (Limit 4) r h in subst (λ x. refutes q x box ≡ true) is f
     where
       bad_is : (a b : Reason) → verdict.Bad a ≡ verdict.Bad b → a ≡ b
       bad_is a b k = cc
-  bad_shows false false true box r e f h = cc
-  bad_shows false false false box r e f h = cc
+  bad_refutes false false true box r e f h = cc
+  bad_refutes false false false box r e f h = cc
 
   when_legal : (rate point single : Bool) → verdict_from rate point single ≡ verdict.Legal → (rate ≡ false) × (point ≡ false) × (single ≡ true)
   when_legal true point single h = cc
@@ -281,7 +281,7 @@ module _ (q : Request) where
   can_lawful = record {
     is_shape = shape_is;
     none_legal = λ r box b h choice c i l. none_legal r box b h choice i l;
-    bad_shows = λ r box b h. bad_shows (refutes_rate q box) (refutes_point q box) (is_single box) box r refl refl h;
+    bad_refutes = λ r box b h. bad_refutes (refutes_rate q box) (refutes_point q box) (is_single box) box r refl refl h;
     legal_is_one = λ box b h. let w = when_legal (refutes_rate q box) (refutes_point q box) (is_single box) h in (w.2, only_serves box b w.0 w.1 w.2);
     open_has_two = λ box b h. when_open (refutes_rate q box) (refutes_point q box) (is_single box) h;
   }

@@ -5,8 +5,8 @@ use Rattle.res_model.specs.declared.clock.Facts.{Facts}
 use Rattle.res_model.specs.declared.table.TableParts.{TableParts}
 use Rattle.std.proofs.lemmas.Bool.Decides.{eqb_tells}
 use Rattle.res_model.specs.Limits.{limits_of, is_met, first_broken, broken_limit}
-use Rattle.clock_limits.specs.Ranges.{Allowed, allowed, limits_over, shows_limit}
-use Rattle.clock_limits.specs.Laws.{IsLeastBroken, BrokenIsLeast, ShownIsLeast}
+use Rattle.clock_limits.specs.Ranges.{Allowed, allowed, limits_over, limit_refutes}
+use Rattle.clock_limits.specs.Laws.{IsLeastBroken, BrokenIsLeast, RefutingIsLeast}
 
 -- numbers that ascend from a least one
 abbrev Ascends : ℕ → List (ℕ × Bool) → Type 0
@@ -71,8 +71,8 @@ same_least : (p q : ℕ → Bool) → ((k : ℕ) → q k ≡ p k) → (r : Optio
 same_least p q same None is = λ j. same j ∙ is j
 same_least p q same (Some k) is = (is.0, same k ∙ is.1, λ j below. same j ∙ is.2 j below)
 
-pub shown_is_least : ShownIsLeast
-shown_is_least t f values b =
+pub refuting_is_least : RefutingIsLeast
+refuting_is_least t f values b =
     let es = limits_over t f (allowed values b) in
-    same_least (λ k. is_met k es) (λ k. not (shows_limit t f values b k)) (λ k. not_not (is_met k es)) (first_broken es)
+    same_least (λ k. is_met k es) (λ k. not (limit_refutes t f values b k)) (λ k. not_not (is_met k es)) (first_broken es)
     (least_of_first es (first_broken es) (first_of 3 es (box_tests t f (allowed values b))))

@@ -6,7 +6,7 @@ pub mod NumberLemmas
 pub mod RangeLemmas
 pub mod RoomLemmas
 pub mod SayLemmas
-pub mod ShownLemmas
+pub mod RefutingLemmas
 pub mod SingleLemmas
 pub mod SizeLemmas
 pub mod SpreadLemmas

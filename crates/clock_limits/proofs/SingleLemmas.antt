@@ -1,4 +1,4 @@
--- On a box with one choice, what is shown is what the choice breaks.
+-- On a box with one choice, what refutes it is what the choice breaks.
 use Rattle.std.proofs.Common.{◌≡◌, ℕ, ◌+◌, ◌-◌, ◌*◌, ◌<◌, Bool, true, false, ◌||◌, cond, nat_eq, Option, Some, None, List, [], ◌∷◌, length, drop, get_or, length-take, length-drop, refl, sym, subst, ap, ◌∙◌, arith}
 use Rattle.std.specs.List.{list_any}
 use Rattle.res_base.specs.Fraction.{Fraction, IsAtMost, at_most, whole, over}

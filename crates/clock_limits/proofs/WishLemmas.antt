@@ -8,7 +8,7 @@ use Rattle.res_model.specs.declared.clock.Range.{Range}
 use Rattle.res_model.specs.declared.table.TableParts.{TableParts}
 use Rattle.res_model.specs.Limits.{IsWithinMax, is_met}
 use Rattle.res_model.specs.Power.{RowCovers, is_covered, speeds_at, scale_limit, is_within_max}
-use Rattle.clock_limits.specs.Laws.{IsShownOf, WishOutOfReachIsShown, WishNarrows}
+use Rattle.clock_limits.specs.Laws.{IsRefutedOf, WishOutOfReachRefutes, WishNarrows}
 use Rattle.clock_limits.specs.Ranges.{Allowed, allowed, IsWithin, some_pclk1, some_pclk2, exactly, narrowed, has, has_wish, divided, least_of, greatest_of, hclk_reach, hclk_range, limits_over}
 use Rattle.clock_limits.proofs.FractionLemmas.{fact_of, and_left, and_right}
 use Rattle.clock_limits.proofs.SayLemmas.{max_says, covered_says}
@@ -17,8 +17,8 @@ not_true : (b : Bool) → (b ≡ true → ⊥) → b ≡ false
 not_true true h = absurd (h refl)
 not_true false h = refl
 
-shown : (b : Bool) → (b ≡ true → ⊥) → not b ≡ true
-shown b h = rw (not_true b h) refl
+refuted : (b : Bool) → (b ≡ true → ⊥) → not b ≡ true
+refuted b h = rw (not_true b h) refl
 
 met_of : (b : Bool) → not b ≡ false → b ≡ true
 met_of true e = refl
@@ -76,25 +76,25 @@ not_as_wished w wish ds r same h =
     subst (λ (s : Range). has (divided s ds) (whole w) ≡ true → ⊥) (sym same)
     (λ e. let is = within_of (divided (exactly (whole wish)) ds) (whole w) e in elim h [ inl y ↦ omega (arith, y, is.above) | inr y ↦ omega (arith, y, is.below) ])
 
-pub out_of_reach : WishOutOfReachIsShown
+pub out_of_reach : WishOutOfReachRefutes
 unfolding limits_over
 out_of_reach t f values b wish is far =
     let r = hclk_reach f (allowed values b) in
-    shown (has_wish f.hclk r) (λ e. far (within_of r (whole wish) (had f.hclk r wish is e)))
+    refuted (has_wish f.hclk r) (λ e. far (within_of r (whole wish) (had f.hclk r wish is e)))
 
-judged : (t : TableParts) (f : Facts) (a : Allowed) (wish : ℕ) → f.hclk ≡ Some wish → is_met 14 (limits_over t f a) ≡ true → IsShownOf t f a wish (λ k. not (is_met k (limits_over t f a)))
+judged : (t : TableParts) (f : Facts) (a : Allowed) (wish : ℕ) → f.hclk ≡ Some wish → is_met 14 (limits_over t f a) ≡ true → IsRefutedOf t f a wish (λ k. not (is_met k (limits_over t f a)))
 unfolding limits_over
 judged t f a wish is met =
     let r = hclk_range f a in
     let same : r ≡ exactly (whole wish) = narrows f.hclk (hclk_reach f a) wish is met in
     record {
-      scale = λ h. shown (list_any (λ v. is_within_max r.least (scale_limit t v)) a.vos) (no_scale t wish r a.vos same h);
-      pclk1 = λ h. shown (some_pclk1 t (divided r a.ppre1).least a.vos) (none_passes (λ v. at_most (divided r a.ppre1).least (whole (speeds_at t v).pclk1)) a.vos (λ v m. too_fast (speeds_at t v).pclk1 wish a.ppre1 r same (h v m)));
-      pclk2 = λ h. shown (some_pclk2 t (divided r a.ppre2).least a.vos) (none_passes (λ v. at_most (divided r a.ppre2).least (whole (speeds_at t v).pclk2)) a.vos (λ v m. too_fast (speeds_at t v).pclk2 wish a.ppre2 r same (h v m)));
-      floor = λ h. shown (at_most (whole f.floor) r.most) (too_slow f.floor wish r same h);
-      row = λ h. shown (is_covered t f.vdd r.least) (no_row t f.vdd wish r same h);
-      wish1 = λ w e h. shown (has_wish f.pclk1 (divided r a.ppre1)) (λ x. not_as_wished w wish a.ppre1 r same h (had f.pclk1 (divided r a.ppre1) w e x));
-      wish2 = λ w e h. shown (has_wish f.pclk2 (divided r a.ppre2)) (λ x. not_as_wished w wish a.ppre2 r same h (had f.pclk2 (divided r a.ppre2) w e x));
+      scale = λ h. refuted (list_any (λ v. is_within_max r.least (scale_limit t v)) a.vos) (no_scale t wish r a.vos same h);
+      pclk1 = λ h. refuted (some_pclk1 t (divided r a.ppre1).least a.vos) (none_passes (λ v. at_most (divided r a.ppre1).least (whole (speeds_at t v).pclk1)) a.vos (λ v m. too_fast (speeds_at t v).pclk1 wish a.ppre1 r same (h v m)));
+      pclk2 = λ h. refuted (some_pclk2 t (divided r a.ppre2).least a.vos) (none_passes (λ v. at_most (divided r a.ppre2).least (whole (speeds_at t v).pclk2)) a.vos (λ v m. too_fast (speeds_at t v).pclk2 wish a.ppre2 r same (h v m)));
+      floor = λ h. refuted (at_most (whole f.floor) r.most) (too_slow f.floor wish r same h);
+      row = λ h. refuted (is_covered t f.vdd r.least) (no_row t f.vdd wish r same h);
+      wish1 = λ w e h. refuted (has_wish f.pclk1 (divided r a.ppre1)) (λ x. not_as_wished w wish a.ppre1 r same h (had f.pclk1 (divided r a.ppre1) w e x));
+      wish2 = λ w e h. refuted (has_wish f.pclk2 (divided r a.ppre2)) (λ x. not_as_wished w wish a.ppre2 r same h (had f.pclk2 (divided r a.ppre2) w e x));
     }
 
 pub wish_narrows : WishNarrows

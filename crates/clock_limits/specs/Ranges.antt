@@ -250,13 +250,13 @@ limits_over t f a =
     ∷ (17, where_so (sure_over a) (may_pll f a))
     ∷ []
 
--- the limit of a number is shown for the box: its ranges leave no room for it
-abbrev pub shows_limit : TableParts → Facts → List (List ℕ) → ClockBox → ℕ → Bool
-shows_limit t f values b k = not (is_met k (limits_over t f (allowed values b)))
+-- the limit of a number refutes the box: its ranges leave no room for it
+abbrev pub limit_refutes : TableParts → Facts → List (List ℕ) → ClockBox → ℕ → Bool
+limit_refutes t f values b k = not (is_met k (limits_over t f (allowed values b)))
 
--- the least number of a limit that is shown for the box
-abbrev pub shown_limit : TableParts → Facts → List (List ℕ) → ClockBox → Option ℕ
-shown_limit t f values b = first_broken (limits_over t f (allowed values b))
+-- the least number of a limit that refutes the box
+abbrev pub refuting_limit : TableParts → Facts → List (List ℕ) → ClockBox → Option ℕ
+refuting_limit t f values b = first_broken (limits_over t f (allowed values b))
 
 -- a limit whose range does not rest on the wish for HCLK
 abbrev pub stands_alone : ℕ → Bool

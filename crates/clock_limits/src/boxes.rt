@@ -1,10 +1,10 @@
-//! The limits that are shown for a box.
+//! The limits that refute a box.
 ghost use Rattle.std.specs.Prelude.{◌≡◌};
 ghost use Rattle.std.specs.List.{list_all, list_any};
 ghost use Rattle.res_model.specs.Clock.{AreFacts};
 ghost use Rattle.res_model.specs.Power.{is_within_max, scale_limit};
 ghost use Rattle.res_model.specs.ClockValues.{has_over};
-ghost use Rattle.clock_limits.specs.Ranges.{AreInRange, IsClockBox, sure_pll, sure_hse, sure_over, may_pll, some_sysclk, some_pclk1, some_pclk2, overlaps, has_wish, limits_over, shown_limit, shows_limit};
+ghost use Rattle.clock_limits.specs.Ranges.{AreInRange, IsClockBox, sure_pll, sure_hse, sure_over, may_pll, some_sysclk, some_pclk1, some_pclk2, overlaps, has_wish, limits_over, refuting_limit, limit_refutes};
 ghost use Rattle.clock_limits.specs.Fair.{IsFair};
 ghost use Rattle.clock_limits.specs.Numbered.{numbered};
 ghost use Rattle.clock_limits.specs.Room.{room_by};
@@ -136,26 +136,26 @@ fn room_in(t: &TableParts, f: &Facts, r: &Runs) -> [bool; 15]
     room_by(t, f, r, &x)
 }
 
-/// The least number among limits 3 to 17 that is shown for the box: its ranges leave no room for it.
+/// The least number among limits 3 to 17 that refutes the box: its ranges leave no room for it.
 ///
 /// `values` has the values of the ten clock variables in their order, with HSI 0, HSE 1 and PLL 2.
 pub fn range_broken(t: &Tables, f: &Facts, values: &[Items<u16>], b: &ClockBox) -> Option<u8>
     requires facts { AreFacts f.now }
     requires in_range { AreInRange values.now }
     requires is_box { IsClockBox values.now b.now }
-    ensures { result ≡ shown_limit t.now f.now values.now b.now }
+    ensures { result ≡ refuting_limit t.now f.now values.now b.now }
 {
     first_broken(&room_in(t.parts(), f, &Runs::of(values, b)))
 }
 
-/// Whether the limit of this number is shown for the box; a number below 3 or above 17 is none.
+/// Whether the limit of this number refutes the box; a number below 3 or above 17 is none.
 ///
 /// `values` is as in `range_broken`.
-pub fn is_shown(t: &Tables, f: &Facts, values: &[Items<u16>], b: &ClockBox, limit: u8) -> bool
+pub fn is_refuted_by(t: &Tables, f: &Facts, values: &[Items<u16>], b: &ClockBox, limit: u8) -> bool
     requires facts { AreFacts f.now }
     requires in_range { AreInRange values.now }
     requires is_box { IsClockBox values.now b.now }
-    ensures { result ≡ shows_limit t.now f.now values.now b.now limit }
+    ensures { result ≡ limit_refutes t.now f.now values.now b.now limit }
 {
     is_broken(&room_in(t.parts(), f, &Runs::of(values, b)), limit)
 }

@@ -8,10 +8,10 @@ mod numbers;
 mod ranges;
 mod runs;
 
-pub use boxes::{is_shown, range_broken};
+pub use boxes::{is_refuted_by, range_broken};
 pub use choices::broken;
 pub use laws::{
-    broken_is_least, one_choice_is_exact, shown_alone_is_broken, shown_is_broken, shown_is_least,
+    broken_is_least, one_choice_is_exact, refuting_alone_is_broken, refuting_is_broken, refuting_is_least,
     tests_are_right, wish_narrows,
 };
 pub use res_model::{ClockBox, ClockChoice, Facts};

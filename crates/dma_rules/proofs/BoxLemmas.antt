@@ -17,7 +17,7 @@ use Rattle.pin_match.specs.Sets.{fits_in}
 use Rattle.pin_match.proofs.SetLemmas as sets
 use Rattle.dma_model.specs.declared.table.DmaRequest.{DmaRequest}
 use Rattle.dma_model.specs.declared.table.DmaRow.{DmaRow}
-use Rattle.dma_rules.specs.Judged.{HasRows, IsStream, are_requests, can_have, has_stream, rows_in, shows_hall, streams_of}
+use Rattle.dma_rules.specs.Judged.{HasRows, IsStream, are_requests, can_have, has_stream, rows_in, hall_refutes, streams_of}
 use Rattle.dma_rules.specs.Lawful.{any_in}
 use Rattle.dma_rules.specs.Streams.{are_apart, is_one_stream, no_request, no_row, row_at, row_of, rows_of, shape_of}
 
@@ -175,14 +175,14 @@ unfolding are_requests
 no_outsider count vars n e f = ap not (ap (λ (k : ℕ). any_below k (λ v. in_set vars v && not (nat_lt v count))) (sym e) ∙ f)
 
 module _ (requests : List DmaRequest) (box : List Run) (vars : VarSet) where
-  pub hall_is : (found : VarSet) → are_requests (length requests) vars ≡ true → ((s : ℕ) → in_set found s ≡ is_wanted (length requests) (can_have requests box) vars s) → nat_lt (set_size found) (set_size vars) ≡ shows_hall requests box vars
-  unfolding shows_hall set_size
+  pub hall_is : (found : VarSet) → are_requests (length requests) vars ≡ true → ((s : ℕ) → in_set found s ≡ is_wanted (length requests) (can_have requests box) vars s) → nat_lt (set_size found) (set_size vars) ≡ hall_refutes requests box vars
+  unfolding hall_refutes set_size
   hall_is found a f =
       let n = sum_same 192 (λ v. one_if (in_set found v)) (λ s. one_if (is_wanted (length requests) (can_have requests box) vars s)) (λ s l. ap one_if (f s)) in
       ap (λ (k : ℕ). nat_lt k (sum_below 192 (λ v. one_if (in_set vars v)))) n ∙ ap (λ (b : Bool). b && nat_lt (streams_of requests box vars) (sum_below 192 (λ v. one_if (in_set vars v)))) (sym a)
 
-  pub hall_not : are_requests (length requests) vars ≡ false → false ≡ shows_hall requests box vars
-  unfolding shows_hall
+  pub hall_not : are_requests (length requests) vars ≡ false → false ≡ hall_refutes requests box vars
+  unfolding hall_refutes
   hall_not e = ap (λ (b : Bool). b && nat_lt (streams_of requests box vars) (sum_below 192 (λ v. one_if (in_set vars v)))) (sym e)
 
 -- ---- what is left of a choice's rows

@@ -1,4 +1,4 @@
--- What shows a box of choices of rows, and the verdict on it.
+-- What refutes a box of choices of rows, and the verdict on it.
 use Rattle.std.specs.Prelude.{ℕ, zero, suc, ◌+◌, ◌-◌, ◌*◌, ◌≤◌, ◌==◌, ◌&&◌, List, [], ◌∷◌, length, Bool, true, false, not, nat_lt, Option, Some, None, slice_range}
 use Rattle.std.specs.List.{list_any}
 use Rattle.res_base.specs.Lists.{Each}
@@ -49,14 +49,14 @@ unfoldable pub are_requests : ℕ → VarSet → Bool
 are_requests count vars = not (any_below 192 (λ v. in_set vars v && not (nat_lt v count)))
 
 -- requests that are more than the streams that they can have together
-unfoldable pub shows_hall : List DmaRequest → List Run → VarSet → Bool
-shows_hall requests box vars = are_requests (length requests) vars && nat_lt (streams_of requests box vars) (sum_below 192 (λ v. one_if (in_set vars v)))
+unfoldable pub hall_refutes : List DmaRequest → List Run → VarSet → Bool
+hall_refutes requests box vars = are_requests (length requests) vars && nat_lt (streams_of requests box vars) (sum_below 192 (λ v. one_if (in_set vars v)))
 
--- the class of pins stands for streams; no other reason shows a box
-abbrev pub shows : List DmaRequest → Reason → List Run → Bool
-shows requests (Hall Pins vars) box = shows_hall requests box vars
-shows requests (Hall Exti vars) box = false
-shows requests (Limit k) box = false
+-- the class of pins stands for streams; no other reason refutes a box
+abbrev pub reason_refutes : List DmaRequest → Reason → List Run → Bool
+reason_refutes requests (Hall Pins vars) box = hall_refutes requests box vars
+reason_refutes requests (Hall Exti vars) box = false
+reason_refutes requests (Limit k) box = false
 
 abbrev pub verdict_from : Option VarSet → Bool → Verdict
 verdict_from (Some vars) single = Bad (Hall Pins vars)
@@ -67,7 +67,7 @@ abbrev pub dma_verdict : List DmaRequest → List Run → Verdict
 dma_verdict requests box = verdict_from (hall_in requests box) (is_single box)
 
 abbrev pub dma_meaning : List DmaRequest → Meaning
-dma_meaning requests = record { shape = shape_of requests; legal = meets requests; shows = shows requests; verdict = dma_verdict requests }
+dma_meaning requests = record { shape = shape_of requests; legal = meets requests; refutes = reason_refutes requests; verdict = dma_verdict requests }
 
 -- the stream has a number
 pub record IsStream (r : DmaRow) : Type 0 where

@@ -29,7 +29,7 @@ use Rattle.search_api.specs.declared.verdict.Reason.TheVariants.{Hall, Limit}
 use Rattle.search_api.specs.declared.verdict.Verdict.TheVariants as verdict
 use Rattle.dma_model.specs.declared.table.DmaRequest.{DmaRequest}
 use Rattle.dma_model.specs.declared.table.DmaRow.{DmaRow}
-use Rattle.dma_rules.specs.Judged.{CanBeJudged, HasRows, IsStream, are_requests, can_have, dma_meaning, hall_in, has_stream, shows, shows_hall, stream_of, streams_of, verdict_from}
+use Rattle.dma_rules.specs.Judged.{CanBeJudged, HasRows, IsStream, are_requests, can_have, dma_meaning, hall_in, has_stream, reason_refutes, hall_refutes, stream_of, streams_of, verdict_from}
 use Rattle.dma_rules.specs.Streams.{are_apart, is_one_stream, meets, no_row, row_of, rows_of, shape_of}
 
 -- ---- tests
@@ -262,7 +262,7 @@ shape_is requests j = record {
       through ((1 + costs_most (shape_of requests)) * choices_of (shape_of requests)) (17 * 8 ^ 16) (2 ^ 63) (mul-le (1 + costs_most (shape_of requests)) (choices_of (shape_of requests)) 17 (8 ^ 16) cost most) top;
 }
 
--- ---- what a Hall set shows
+-- ---- what a Hall set refutes
 
 module _ (requests : List DmaRequest) (j : CanBeJudged requests) (box : List Run) (is_box : IsBox (shape_of requests) box) where
   abbrev count : ℕ
@@ -359,10 +359,10 @@ module _ (requests : List DmaRequest) (j : CanBeJudged requests) (box : List Run
     not_both : (a b c : ℕ) → a < c → c ≤ b → b ≤ a → ⊥
     not_both a b c l k m = absurd (omega (arith, l, k, m))
 
-    none_meets : (vars : VarSet) → shows_hall requests box vars ≡ true → meets requests choice ≡ true → ⊥
-    unfolding shows_hall
-    none_meets vars shown ok =
-        let b = both (are_requests count vars) (nat_lt (streams_of requests box vars) (sum_below 192 (λ v. one_if (in_set vars v)))) shown in
+    none_meets : (vars : VarSet) → hall_refutes requests box vars ≡ true → meets requests choice ≡ true → ⊥
+    unfolding hall_refutes
+    none_meets vars refuted ok =
+        let b = both (are_requests count vars) (nat_lt (streams_of requests box vars) (sum_below 192 (λ v. one_if (in_set vars v)))) refuted in
         let less = less_of (streams_of requests box vars) (sum_below 192 (λ v. one_if (in_set vars v))) b.1 in
         not_both (streams_of requests box vars) (sum_below count (λ v. one_if (in_set vars v))) (sum_below 192 (λ v. one_if (in_set vars v))) less
         (sum_no_more count 192 (λ v. one_if (in_set vars v)) (none_beyond vars b.0)) (few_members vars (pairs_of (rows_of requests choice) ok))
@@ -388,10 +388,10 @@ module _ (requests : List DmaRequest) (j : CanBeJudged requests) (box : List Run
       full_meets : meets requests choice ≡ true
       full_meets = apart_of (rows_of requests choice) full_pairs
 
-  -- the set that is computed shows the box
-  hall_shows : (vars : VarSet) → hall_in requests box ≡ Some vars → shows_hall requests box vars ≡ true
-  unfolding shows_hall are_requests
-  hall_shows vars e =
+  -- the set that is computed refutes the box
+  found_hall_refutes : (vars : VarSet) → hall_in requests box ≡ Some vars → hall_refutes requests box vars ≡ true
+  unfolding hall_refutes are_requests
+  found_hall_refutes vars e =
       let h : IsHall count 192 fits vars = some_is_hall count 192 fits vars few e in
       let more = sum_more count 192 (λ v. one_if (in_set vars v)) few in
       let less : nat_lt (streams_of requests box vars) (sum_below 192 (λ v. one_if (in_set vars v))) ≡ true =
@@ -430,16 +430,16 @@ when_open None true e = cc
 when_open None false e = refl
 
 module _ (requests : List DmaRequest) (j : CanBeJudged requests) where
-  shown_none : (reason : Reason) (box : List Run) → IsBox (shape_of requests) box → shows requests reason box ≡ true → (choice : List ℕ) → LiesIn box choice → meets requests choice ≡ true → ⊥
-  shown_none (Hall Pins vars) box b h choice lies m = none_meets requests j box b choice lies vars h m
-  shown_none (Hall Exti vars) box b h choice lies m = let q : false ≡ true = h in cc
-  shown_none (Limit k) box b h choice lies m = let q : false ≡ true = h in cc
+  refuted_none : (reason : Reason) (box : List Run) → IsBox (shape_of requests) box → reason_refutes requests reason box ≡ true → (choice : List ℕ) → LiesIn box choice → meets requests choice ≡ true → ⊥
+  refuted_none (Hall Pins vars) box b h choice lies m = none_meets requests j box b choice lies vars h m
+  refuted_none (Hall Exti vars) box b h choice lies m = let q : false ≡ true = h in cc
+  refuted_none (Limit k) box b h choice lies m = let q : false ≡ true = h in cc
 
   pub dma_lawful : IsLawful (dma_meaning requests)
   dma_lawful = record {
     is_shape = shape_is requests j;
-    none_legal = λ reason box b h choice c lies m. shown_none reason box b h choice lies m;
-    bad_shows = λ reason box b e. bad_is (hall_in requests box) (is_single box) reason (λ r. shows requests r box ≡ true) (hall_shows requests j box b) e;
+    none_legal = λ reason box b h choice c lies m. refuted_none reason box b h choice lies m;
+    bad_refutes = λ reason box b e. bad_is (hall_in requests box) (is_single box) reason (λ r. reason_refutes requests r box ≡ true) (found_hall_refutes requests j box b) e;
     legal_is_one = λ box b e.
         let h = when_legal (hall_in requests box) (is_single box) e in
         (h.1, full_meets requests j box b (lows box) (lows_lie (shape_of requests) box b) h.1 (none_is_full (length requests) 192 (can_have requests box) h.0));

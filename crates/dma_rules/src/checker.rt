@@ -9,7 +9,7 @@ ghost use Rattle.pin_match.specs.Hall.{any_below, is_wanted};
 ghost use Rattle.refutation.specs.Trees.{IsAccepted};
 ghost use Rattle.tree_check.specs.Faults.{IsRejected};
 ghost use Rattle.tree_check.specs.Sound.{of_judge};
-ghost use Rattle.dma_rules.specs.Judged.{CanBeJudged, are_requests, can_have, dma_meaning, shows, shows_hall};
+ghost use Rattle.dma_rules.specs.Judged.{CanBeJudged, are_requests, can_have, dma_meaning, reason_refutes, hall_refutes};
 ghost use Rattle.dma_rules.specs.Lawful.{dma_lawful};
 ghost use Rattle.dma_rules.specs.Streams.{meets, shape_of};
 
@@ -44,13 +44,13 @@ impl Refuter for DmaWant {
     ghost sound = { λ w judged. of_judge (dma_meaning w) (dma_lawful w judged) };
 }
 
-/// Whether a reason shows a box of wanted requests.
+/// Whether a reason refutes a box of wanted requests.
 fn refutes(w: &DmaWant, reason: Reason, b: &BoxBuf) -> bool
     requires judged { CanBeJudged w.now }
     requires is_box { IsBox (shape_of w.now) (box_in (shape_of w.now) b.now) }
-    ensures { result ≡ shows w.now reason (box_in (shape_of w.now) b.now) }
+    ensures { result ≡ reason_refutes w.now reason (box_in (shape_of w.now) b.now) }
 {
-    shows(w.requests(), reason, &b.lo, &b.hi)
+    reason_refutes(w.requests(), reason, &b.lo, &b.hi)
 }
 
 /// Whether no two wanted requests take one stream in a choice.
@@ -99,12 +99,12 @@ fn streams_of(requests: &[DmaRequest], vars: &VarSet, lo: &[u16], hi: &[u16]) ->
 }
 
 /// Whether the requests of a set are more than the streams that they can have together in a box.
-fn shows_hall(requests: &[DmaRequest], vars: &VarSet, lo: &[u16], hi: &[u16]) -> bool
+fn hall_refutes(requests: &[DmaRequest], vars: &VarSet, lo: &[u16], hi: &[u16]) -> bool
     requires judged { CanBeJudged requests.now }
     requires low { length requests.now ≤ length lo.now }
     requires high { length requests.now ≤ length hi.now }
     requires is_box { IsBox (shape_of requests.now) (runs_in (length requests.now) lo.now hi.now) }
-    ensures { result ≡ shows_hall requests.now (runs_in (length requests.now) lo.now hi.now) vars.now }
+    ensures { result ≡ hall_refutes requests.now (runs_in (length requests.now) lo.now hi.now) vars.now }
 {
     if !are_requests(requests, vars) {
         return false;
@@ -113,19 +113,19 @@ fn shows_hall(requests: &[DmaRequest], vars: &VarSet, lo: &[u16], hi: &[u16]) ->
     streams.len() < vars.len()
 }
 
-/// Whether a reason shows a box: the class of pins stands for streams, and no other reason shows one.
-fn shows(requests: &[DmaRequest], reason: Reason, lo: &[u16], hi: &[u16]) -> bool
+/// Whether a reason refutes a box: the class of pins stands for streams, and no other reason refutes one.
+fn reason_refutes(requests: &[DmaRequest], reason: Reason, lo: &[u16], hi: &[u16]) -> bool
     requires judged { CanBeJudged requests.now }
     requires low { length requests.now ≤ length lo.now }
     requires high { length requests.now ≤ length hi.now }
     requires is_box { IsBox (shape_of requests.now) (runs_in (length requests.now) lo.now hi.now) }
-    ensures { result ≡ shows requests.now reason (runs_in (length requests.now) lo.now hi.now) }
+    ensures { result ≡ reason_refutes requests.now reason (runs_in (length requests.now) lo.now hi.now) }
 {
     match reason {
         Reason::Hall {
             class: Class::Pins,
             vars,
-        } => shows_hall(requests, &vars, lo, hi),
+        } => hall_refutes(requests, &vars, lo, hi),
         Reason::Hall {
             class: Class::Exti,
             ..

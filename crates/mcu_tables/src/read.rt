@@ -178,7 +178,7 @@ pub fn read_tables(alloc: Global, text: &[u8]) -> Result<Tables, TableFault>
     ensures { Gives (λ t. t) result (tables_of text.now) }
 {
     match parts_of(alloc, text) {
-        Ok(parts) => Ok(Tables::of(parts)),
+        Ok(parts) => Ok(Tables::of(alloc, parts)?),
         Err(flaw) => Err(spelled_fault(alloc, flaw)),
     }
 }

@@ -7,19 +7,8 @@ ghost use Rattle.res_model.specs.Values.{is_at, rows_at, rows_elsewhere, use_at,
 
 use choice_rank::Costs;
 use res_base::OutOfMemory;
-use res_model::{Mode, PinUse, Role, Signal, TableParts, TableSignal, Tables};
+use res_model::{Mode, PinUse, Role, Signal, TableSignal, Tables};
 use std::alloc::{AllocError, Global};
-
-/// The signal of the table with this name.
-#[tactic(auto, unfolding(res_model::specs::Signals::signal_named))]
-fn signal_named<'t>(t: &'t TableParts, name: &[u8]) -> Option<&'t TableSignal>
-    ensures { option_copied result ≡ signal_named t.now name.now }
-{
-    t.signals
-        .as_slice()
-        .iter()
-        .find(|signal| signal.name.as_str().as_bytes() == name)
-}
 
 fn rows_of<'t>(signal: Option<&'t TableSignal>) -> &'t [PinUse]
     ensures { result.now ≡ rows_of (option_copied signal.entry) }
@@ -114,7 +103,7 @@ pub fn candidates(alloc: Global, t: &Tables, s: &Signal) -> Result<Vec<PinUse>, 
     ensures { IfOk result (λ v. v.items ≡ values_of t.now s.now) }
 {
     let name = s.name.as_str().as_bytes();
-    let signal = signal_named(t.parts(), name);
+    let signal = t.signal_named(name);
     let rows = rows_of(signal);
     match s.home {
         None => Ok(Vec::from_slice(alloc, rows)?),
@@ -134,7 +123,7 @@ fn is_at(rows: &[PinUse], pin: u8) -> bool
 pub fn costs(t: &Tables, s: &Signal) -> Costs
     ensures { result ≡ costs_of t.now s.now }
 {
-    let signal = signal_named(t.parts(), s.name.as_str().as_bytes());
+    let signal = t.signal_named(s.name.as_str().as_bytes());
     costs_from(rows_of(signal), s.home)
 }
 
@@ -156,7 +145,7 @@ fn costs_from(rows: &[PinUse], home: Option<u8>) -> Costs
 pub fn can(t: &Tables, name: &str, at: PinUse) -> bool
     ensures { IsTrue result ↔ Can t.now name.now at }
 {
-    let signal = signal_named(t.parts(), name.as_bytes());
+    let signal = t.signal_named(name.as_bytes());
     can_use(rows_of(signal), own_mode(name.as_bytes(), signal), at)
 }
 

@@ -11,15 +11,15 @@ use Rattle.res_base.proofs.SumLemmas.{bool_cases, some_below}
 use Rattle.box_split.specs.Boxes.{Run, IsBox, is_single}
 use Rattle.pin_match.specs.Hall.{any_below}
 use Rattle.clock_limits.specs.Laws.{IsLeastBroken}
-use Rattle.clock_limits.proofs.LeastLemmas.{shown_is_least}
+use Rattle.clock_limits.proofs.LeastLemmas.{refuting_is_least}
 use Rattle.problem.specs.declared.parts.ProblemParts.{ProblemParts}
-use Rattle.clock_limits.specs.Ranges.{shows_limit, shown_limit}
+use Rattle.clock_limits.specs.Ranges.{limit_refutes, refuting_limit}
 use Rattle.search_api.specs.declared.verdict.Class.{Class}
 use Rattle.search_api.specs.declared.verdict.Class.TheVariants.{Pins, Exti}
 use Rattle.search_api.specs.declared.verdict.Reason.{Reason}
 use Rattle.search_api.specs.declared.verdict.Reason.TheVariants.{Hall, Limit}
 use Rattle.search_api.specs.declared.verdict.Verdict.TheVariants.{Bad}
-use Rattle.box_rules.specs.Contest.{Contestant, hall_in, is_contestant, resources_of, shows_hall, variable_at}
+use Rattle.box_rules.specs.Contest.{Contestant, hall_in, is_contestant, resources_of, hall_refutes, variable_at}
 use Rattle.box_rules.specs.Judged.{IsWhole, clock_box, contest, whole_meaning, whole_verdict_from}
 use Rattle.box_rules.proofs.ContestLemmas.{as_many_values, most_variable}
 use Rattle.box_rules.proofs.CountLemmas.{and_yes, any_in, both, some_any, yes}
@@ -51,11 +51,11 @@ reason_from None None None true reason p q l e = cc
 reason_from None None None false reason p q l e = cc
 
 -- a Hall set has a member, and all of them compete
-module _ (p : ProblemParts) (class : Class) (cs : List Contestant) (vars : VarSet) (shown : shows_hall p.tables class cs vars ≡ true) where
+module _ (p : ProblemParts) (class : Class) (cs : List Contestant) (vars : VarSet) (refuted : hall_refutes p.tables class cs vars ≡ true) where
   parts : (any_below 192 (λ v. in_set vars v && not (is_contestant cs v)) ≡ false) × (resources_of p.tables class cs vars < sum_below 192 (λ v. one_if (in_set vars v)))
-  unfolding shows_hall
+  unfolding hall_refutes
   parts =
-      let b = both (not (any_below 192 (λ v. in_set vars v && not (is_contestant cs v)))) (nat_lt (resources_of p.tables class cs vars) (sum_below 192 (λ v. one_if (in_set vars v)))) shown in
+      let b = both (not (any_below 192 (λ v. in_set vars v && not (is_contestant cs v)))) (nat_lt (resources_of p.tables class cs vars) (sum_below 192 (λ v. one_if (in_set vars v)))) refuted in
       let l : resources_of p.tables class cs vars < sum_below 192 (λ v. one_if (in_set vars v)) = grind (arith, nat_tests, b.1) in
       (not_true (any_below 192 (λ v. in_set vars v && not (is_contestant cs v))) b.0, l)
 
@@ -78,22 +78,22 @@ module _ (p : ProblemParts) (w : IsWhole p) where
     hall : (class : Class) (vars : VarSet) → hall_in p.tables class (contest p class box) ≡ Some vars → HasMembers vars
     hall class vars e =
         let cs = contest p class box in
-        let shown = hall_bad p w.ready box is_box class vars e in
+        let refuted = hall_bad p w.ready box is_box class vars e in
         record {
-          some = a_member p class cs vars shown;
+          some = a_member p class cs vars refuted;
           variables = λ v l t.
-              let c = competing p class cs vars shown v l t in
+              let c = competing p class cs vars refuted v l t in
               omega (arith, most_variable class p.first p.uses (drop p.first box) c.0 c.1, c.2, few);
         }
 
-    limit : (k : ℕ) → shown_limit p.tables p.facts p.clock (clock_box box) ≡ Some k → HasLine (Limit k)
+    limit : (k : ℕ) → refuting_limit p.tables p.facts p.clock (clock_box box) ≡ Some k → HasLine (Limit k)
     limit k e =
-        let least = subst (λ (o : Option ℕ). IsLeastBroken (λ j. not (shows_limit p.tables p.facts p.clock (clock_box box) j)) o) e (shown_is_least p.tables p.facts p.clock (clock_box box)) in
+        let least = subst (λ (o : Option ℕ). IsLeastBroken (λ j. not (limit_refutes p.tables p.facts p.clock (clock_box box) j)) o) e (refuting_is_least p.tables p.facts p.clock (clock_box box)) in
         (least.0.0, least.0.1)
 
 pub have_lines : (p : ProblemParts) → IsWhole p → ReasonsHaveLines (whole_meaning p)
 have_lines p w reason box b e =
-    reason_from (hall_in p.tables Pins (contest p Pins box)) (hall_in p.tables Exti (contest p Exti box)) (shown_limit p.tables p.facts p.clock (clock_box box)) (is_single box) reason
+    reason_from (hall_in p.tables Pins (contest p Pins box)) (hall_in p.tables Exti (contest p Exti box)) (refuting_limit p.tables p.facts p.clock (clock_box box)) (is_single box) reason
     (hall p w box b Pins) (hall p w box b Exti) (limit p w box b) e
 
 pub are_read : (p : ProblemParts) (bound : Option ℕ) (nodes : List Node) (before : List (List ℕ)) → IsWhole p → FitsBound bound → IsCanonicalOf (whole_meaning p) bound nodes → Each IsPassedOver before → proof_of (lines_text before ++ spelling bound (map form_of nodes)) ≡ Ok (bound, map form_of nodes)

@@ -19,7 +19,7 @@ use Rattle.box_split.proofs.LawLemmas.{holds_in, whole_lies, lies}
 use Rattle.refutation.specs.declared.node.Node.{Node}
 use Rattle.search_api.specs.Meaning.{Meaning, IsLawful}
 use Rattle.search_api.specs.Accounts.{IsLegalRank}
-use Rattle.refutation.specs.Outcomes.{is_below, cause_at, FitsCause, FitsEntry, IsCovered, IsShown, IsSound}
+use Rattle.refutation.specs.Outcomes.{is_below, cause_at, FitsCause, FitsEntry, IsCovered, IsRefuted, IsSound}
 use Rattle.refutation.specs.Trees.{Tree, BadLeaf, RankLeaf, WitnessLeaf, Fork, nodes_of, CanSplit, low_part, high_part, IsWitness, Accepts, HasWitness, NeedsWitness, IsAccepted}
 use Rattle.refutation.specs.Canonical.{IsMade}
 use Rattle.refutation.proofs.CauseLemmas.{cause_in}
@@ -80,13 +80,13 @@ module _ (j : Meaning) (judge : IsLawful j) (best : Option ℕ) (kept : List ℕ
       let b = best_low best rank (low_of j.shape box) covered.best_is c.2 c.1 f in
       subst (λ o. IsWitness j o box) (sym b) (c.0, ap j.legal (sym lows_is) ∙ own.is_legal, refl)
 
-  pub shown_at : (p : ℕ) (box : List Run) (reason : _) → box_of j.shape p ≡ Some box → cause_at closed p ≡ Some (cause.Bad reason) → j.shows reason box ≡ true
-  shown_at p box reason e h =
+  pub refuted_at : (p : ℕ) (box : List Run) (reason : _) → box_of j.shape p ≡ Some box → cause_at closed p ≡ Some (cause.Bad reason) → j.refutes reason box ≡ true
+  refuted_at p box reason e h =
       let i = cause_in closed p (cause.Bad reason) h in
-      each_in (IsShown j) i.0 closed sound.shown i.1 reason box i.3 (ap (box_of j.shape) i.2 ∙ e)
+      each_in (IsRefuted j) i.0 closed sound.refuted i.1 reason box i.3 (ap (box_of j.shape) i.2 ∙ e)
 
   pub accepts : (tree : Tree) (p : ℕ) (box : List Run) → box_of j.shape p ≡ Some box → IsMade j.shape best closed tree p box → Accepts j best tree box
-  accepts (BadLeaf reason) p box e m = shown_at p box reason e m.1
+  accepts (BadLeaf reason) p box e m = refuted_at p box reason e m.1
   accepts RankLeaf p box e m = m
   accepts WitnessLeaf p box e m = witness_at p m.1.0 box e m.0 m.1.1
   accepts (Fork v k l r) p box e m =
@@ -101,7 +101,7 @@ module _ (j : Meaning) (judge : IsLawful j) (best : Option ℕ) (kept : List ℕ
   below_not b rank low h l e = grind (arith, nat_tests)
 
   witness : (b : ℕ) → best ≡ Some b → (own : IsLegalRank j b) → (tree : Tree) (p : ℕ) (box : List Run) → box_of j.shape p ≡ Some box → IsMade j.shape best closed tree p box → holds box own.choice ≡ true → HasWitness tree
-  witness b is own (BadLeaf reason) p box e m h = judge.none_legal reason box (path_box j.shape p box positions e) (shown_at p box reason e m.1) own.choice own.is_choice (lies box own.choice h) own.is_legal
+  witness b is own (BadLeaf reason) p box e m h = judge.none_legal reason box (path_box j.shape p box positions e) (refuted_at p box reason e m.1) own.choice own.is_choice (lies box own.choice h) own.is_legal
   witness b is own RankLeaf p box e m h = below_not b (rank_of j.shape own.choice) (low_of j.shape box) (ap (λ o. is_below o (low_of j.shape box)) (sym is) ∙ m) (low_rank j.shape box own.choice h) own.rank_is
   witness b is own WitnessLeaf p box e m h = tt
   witness b is own (Fork v k l r) p box e m h =

@@ -26,7 +26,7 @@ use Rattle.refutation.proofs.AcceptLemmas.{witness_at}
 module _ (j : Meaning) (judge : IsLawful j) (best : Option ℕ) (kept : List ℕ) (closed : List Closed) (positions : HasPositions j.shape) (covered : IsCovered j.shape best kept closed) (sound : IsSound j kept closed) (owned : IsOwned j closed) where
   -- a box whose choice is legal is not bad
   not_bad : (box : List Run) → IsBox j.shape box → j.legal (lows box) ≡ true → (v : Verdict) → j.verdict box ≡ v → NotBad v
-  not_bad box b l (verdict.Bad reason) e = judge.none_legal reason box b (judge.bad_shows reason box b e) (lows box) (lows_choice j.shape box b) (lies box (lows box) (lows_held j.shape box b)) l
+  not_bad box b l (verdict.Bad reason) e = judge.none_legal reason box b (judge.bad_refutes reason box b e) (lows box) (lows_choice j.shape box b) (lies box (lows box) (lows_held j.shape box b)) l
   not_bad box b l verdict.Legal e = tt
   not_bad box b l verdict.Open e = tt
 

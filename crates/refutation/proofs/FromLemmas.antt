@@ -12,7 +12,7 @@ use Rattle.search_api.specs.declared.outcome.Closed.{Closed}
 use Rattle.search_api.specs.Meaning.{Meaning, IsLawful}
 use Rattle.search_api.specs.Accounts.{IsBest, IsClosed, IsEntry, IsLegalRank, Accounted}
 use Rattle.refutation.specs.Forms.{FitsBound}
-use Rattle.refutation.specs.Outcomes.{FitsCause, FitsEntry, IsCovered, IsShown, IsOwn, IsSound, IsOwned}
+use Rattle.refutation.specs.Outcomes.{FitsCause, FitsEntry, IsCovered, IsRefuted, IsOwn, IsSound, IsOwned}
 
 fits_cause : (m : Meaning) (kept : List ℕ) (box : List Run) (c : Cause) → IsClosed m kept box c → FitsCause m.shape kept box c
 fits_cause m kept box (cause.Bad reason) h = tt
@@ -34,7 +34,7 @@ bad_at m kept e reason box h c b =
 
 pub sound : (m : Meaning) (best : Option ℕ) (kept : List ℕ) (closed : List Closed) → Accounted m best kept closed → IsSound m kept closed
 sound m best kept closed a = record {
-  shown = each_map (IsEntry m kept) (IsShown m) closed (λ e h reason box c b. (bad_at m kept e reason box h c b).0) a.entries;
+  refuted = each_map (IsEntry m kept) (IsRefuted m) closed (λ e h reason box c b. (bad_at m kept e reason box h c b).0) a.entries;
   legal = a.legal;
 }
 

@@ -44,17 +44,17 @@ pub record IsCovered (vars : List VarShape) (best : Option ℕ) (kept : List ℕ
   pub entries : Each (FitsEntry vars kept) closed
   pub best_is : IsBest kept best
 
--- the reason of a closed path shows its box
-abbrev pub IsShown : Meaning → Closed → Type 0
-IsShown m e = (reason : Reason) (box : List Run) → e.cause ≡ cause.Bad reason → box_of m.shape e.path ≡ Some box → m.shows reason box ≡ true
+-- the reason of a closed path refutes its box
+abbrev pub IsRefuted : Meaning → Closed → Type 0
+IsRefuted m e = (reason : Reason) (box : List Run) → e.cause ≡ cause.Bad reason → box_of m.shape e.path ≡ Some box → m.refutes reason box ≡ true
 
 -- the reason of a closed path is the verdict on its box
 abbrev pub IsOwn : Meaning → Closed → Type 0
 IsOwn m e = (reason : Reason) (box : List Run) → e.cause ≡ cause.Bad reason → box_of m.shape e.path ≡ Some box → m.verdict box ≡ verdict.Bad reason
 
--- each reason shows its box, and each kept rank is that of a legal choice
+-- each reason refutes its box, and each kept rank is that of a legal choice
 pub record IsSound (m : Meaning) (kept : List ℕ) (closed : List Closed) : Type 0 where
-  pub shown : Each (IsShown m) closed
+  pub refuted : Each (IsRefuted m) closed
   pub legal : Each (IsLegalRank m) kept
 
 -- each reason is the verdict, and the verdict on each box above a closed one is open

@@ -44,7 +44,7 @@ IsWitness m (Some bound) box = (is_single box ≡ true) × (m.legal (lows box) �
 
 -- what a tree has to say of its box: each leaf's rule holds, and each split has two parts
 abbrev pub Accepts : Meaning → Option ℕ → Tree → List Run → Type 0
-Accepts m bound (BadLeaf reason) box = m.shows reason box ≡ true
+Accepts m bound (BadLeaf reason) box = m.refutes reason box ≡ true
 Accepts m bound RankLeaf box = is_below bound (low_of m.shape box) ≡ true
 Accepts m bound WitnessLeaf box = IsWitness m bound box
 Accepts m bound (Fork v k l r) box = CanSplit v k box × Accepts m bound l (low_part v k box) × Accepts m bound r (high_part v k box)

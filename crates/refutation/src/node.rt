@@ -8,7 +8,7 @@ use std::alloc::{AllocError, AllocFailed};
 pub enum Node {
     /// The box is split at a variable: the lower part ends at a position, and the upper part begins after it.
     Split { variable: u16, after: u16 },
-    /// The reason shows that no choice of the box is legal.
+    /// The reason says that no choice of the box is legal.
     Bad(Reason),
     /// No choice of the box has a rank as low as the bound.
     Rank,

@@ -1,4 +1,4 @@
--- What is counted signal by signal is what the definition of a shown box counts.
+-- What is counted signal by signal is what the definition of a refuted box counts.
 use Rattle.std.proofs.Common.{◌≡◌, ℕ, zero, suc, ◌+◌, ◌-◌, ◌==◌, ◌<◌, ◌≤◌, List, [], ◌∷◌, length, get_or, drop, Bool, true, false, ◌&&◌, ◌||◌, ◌⊎◌, inl, inr, refl, sym, ap, subst, ◌∙◌, arith}
 use Rattle.std.specs.Prelude.{not, nat_lt}
 use Rattle.std.proofs.lemmas.Bool.Decides.{nat_tests}
@@ -16,7 +16,7 @@ use Rattle.problem.specs.declared.parts.ProblemParts.{ProblemParts}
 use Rattle.res_model.specs.declared.table.PinUse.{PinUse}
 use Rattle.res_model.specs.declared.table.TableParts.{TableParts}
 use Rattle.search_api.specs.declared.verdict.Class.{Class}
-use Rattle.box_rules.specs.Contest.{Contestant, competes, contestants, is_contestant, joined, resources_of, shows_hall, uses_in, variable_at, wants}
+use Rattle.box_rules.specs.Contest.{Contestant, competes, contestants, is_contestant, joined, resources_of, hall_refutes, uses_in, variable_at, wants}
 use Rattle.box_rules.specs.Inside.{AreInside}
 use Rattle.box_rules.specs.Judged.{contest, HasResources, IsReady}
 use Rattle.box_rules.proofs.ContestLemmas.{as_many_values, box_drop, box_inside}
@@ -134,8 +134,8 @@ module _ (t : TableParts) (class : Class) (vars : VarSet) where
 
   -- the two counts
   pub hall_is : (first : ℕ) (uses : List (List PinUse)) (rs : List Run) (found : VarSet) → AreInside uses rs → ((r : ℕ) → in_set found r ≡ is_used t class vars first uses rs r)
-      → (are_of_class class first uses vars && nat_lt (set_size found) (set_size vars)) ≡ shows_hall t class (contestants class first uses rs) vars
-  unfolding shows_hall set_size are_of_class
+      → (are_of_class class first uses vars && nat_lt (set_size found) (set_size vars)) ≡ hall_refutes t class (contestants class first uses rs) vars
+  unfolding hall_refutes set_size are_of_class
   hall_is first uses rs found h f =
       let cs : List Contestant = contestants class first uses rs in
       let a = ap not (any_same 192 (λ v. in_set vars v && not (is_of_class class first uses v)) (λ v. in_set vars v && not (is_contestant cs v)) (λ v. ap (λ b. in_set vars v && not b) (sym (contestant_is class first uses rs v h)))) in
@@ -143,8 +143,8 @@ module _ (t : TableParts) (class : Class) (vars : VarSet) where
       ap (λ b. b && nat_lt (sum_below 192 (λ v. one_if (in_set found v))) (sum_below 192 (λ v. one_if (in_set vars v)))) a
       ∙ ap (λ k. not (any_below 192 (λ v. in_set vars v && not (is_contestant cs v))) && nat_lt k (sum_below 192 (λ v. one_if (in_set vars v)))) n
 
-  pub hall_not : (first : ℕ) (uses : List (List PinUse)) (rs : List Run) → AreInside uses rs → are_of_class class first uses vars ≡ false → false ≡ shows_hall t class (contestants class first uses rs) vars
-  unfolding shows_hall are_of_class
+  pub hall_not : (first : ℕ) (uses : List (List PinUse)) (rs : List Run) → AreInside uses rs → are_of_class class first uses vars ≡ false → false ≡ hall_refutes t class (contestants class first uses rs) vars
+  unfolding hall_refutes are_of_class
   hall_not first uses rs h e =
       let cs : List Contestant = contestants class first uses rs in
       let a = ap not (any_same 192 (λ v. in_set vars v && not (is_of_class class first uses v)) (λ v. in_set vars v && not (is_contestant cs v)) (λ v. ap (λ b. in_set vars v && not b) (sym (contestant_is class first uses rs v h)))) in
@@ -256,11 +256,11 @@ module _ (p : ProblemParts) (ready : IsReady p) (b : BoxBuf) (is_box : IsBox p.s
       (subst (λ (xs : List ℕ). CanCount p.first p.uses p.tables (drop p.first b.lo) xs) (sym e.hi_is) own_count))))
 
   pub count_is : (class : Class) (vars : VarSet) (first : ℕ) (uses : List (List PinUse)) (t : TableParts) (lo hi : List ℕ) → AreOf p b first uses t lo hi
-      → shows_hall t class (contestants class first uses (runs_in (length uses) lo hi)) vars ≡ shows_hall p.tables class (contest p class (box_in p.shape b)) vars
+      → hall_refutes t class (contestants class first uses (runs_in (length uses) lo hi)) vars ≡ hall_refutes p.tables class (contest p class (box_in p.shape b)) vars
   count_is class vars first uses t lo hi e =
-      ap (λ (n : ℕ). shows_hall t class (contestants class n uses (runs_in (length uses) lo hi)) vars) e.first_is
-      ∙ ap (λ (xs : List (List PinUse)). shows_hall t class (contestants class p.first xs (runs_in (length xs) lo hi)) vars) e.uses_are
-      ∙ ap (λ (x : TableParts). shows_hall x class (contestants class p.first p.uses (runs_in (length p.uses) lo hi)) vars) e.tables_are
-      ∙ ap (λ (xs : List ℕ). shows_hall p.tables class (contestants class p.first p.uses (runs_in (length p.uses) xs hi)) vars) e.lo_is
-      ∙ ap (λ (xs : List ℕ). shows_hall p.tables class (contestants class p.first p.uses (runs_in (length p.uses) (drop p.first b.lo) xs)) vars) e.hi_is
-      ∙ ap (λ (rs : List Run). shows_hall p.tables class (contestants class p.first p.uses rs) vars) (signal_runs p ready b is_box lows highs)
+      ap (λ (n : ℕ). hall_refutes t class (contestants class n uses (runs_in (length uses) lo hi)) vars) e.first_is
+      ∙ ap (λ (xs : List (List PinUse)). hall_refutes t class (contestants class p.first xs (runs_in (length xs) lo hi)) vars) e.uses_are
+      ∙ ap (λ (x : TableParts). hall_refutes x class (contestants class p.first p.uses (runs_in (length p.uses) lo hi)) vars) e.tables_are
+      ∙ ap (λ (xs : List ℕ). hall_refutes p.tables class (contestants class p.first p.uses (runs_in (length p.uses) xs hi)) vars) e.lo_is
+      ∙ ap (λ (xs : List ℕ). hall_refutes p.tables class (contestants class p.first p.uses (runs_in (length p.uses) (drop p.first b.lo) xs)) vars) e.hi_is
+      ∙ ap (λ (rs : List Run). hall_refutes p.tables class (contestants class p.first p.uses rs) vars) (signal_runs p ready b is_box lows highs)

@@ -6,7 +6,7 @@ ghost use Rattle.res_base.specs.VarSet.{in_set};
 ghost use Rattle.box_split.specs.Boxes.{IsBox};
 ghost use Rattle.box_split.specs.BoxIn.{box_in, runs_in};
 ghost use Rattle.res_model.specs.Placement.{is_exti, number_of};
-ghost use Rattle.box_rules.specs.Contest.{competes, contestants, resource_of, shows_hall, uses_in};
+ghost use Rattle.box_rules.specs.Contest.{competes, contestants, resource_of, hall_refutes, uses_in};
 ghost use Rattle.box_rules.specs.Inside.{AreInside};
 ghost use Rattle.box_rules.specs.Judged.{contest, HasResources, IsWhole};
 ghost use Rattle.refute_check.specs.Counting.{are_of_class, has_resource, is_of_class, is_used};
@@ -17,11 +17,11 @@ use res_base::{Items, VarSet};
 use res_model::{Mode, PinUse, TableParts};
 use search_api::Class;
 
-/// Whether a set of variables shows a box: all are signals of the class, and they are more than their resources.
-pub(crate) fn shows_hall(p: &Problem, class: Class, vars: &VarSet, b: &BoxBuf) -> bool
+/// Whether a set of variables refutes a box: all are signals of the class, and they are more than their resources.
+pub(crate) fn hall_refutes(p: &Problem, class: Class, vars: &VarSet, b: &BoxBuf) -> bool
     requires whole { IsWhole p.now }
     requires is_box { IsBox p.now.shape (box_in p.now.shape b.now) }
-    ensures { result ≡ shows_hall p.now.tables class (contest p.now class (box_in p.now.shape b.now)) vars.now }
+    ensures { result ≡ hall_refutes p.now.tables class (contest p.now class (box_in p.now.shape b.now)) vars.now }
 {
     let parts = p.parts();
     let t = parts.tables.parts();
@@ -55,7 +55,7 @@ fn are_too_many(
     requires high { length uses.now ≤ length hi.now }
     requires inside { AreInside uses.now (runs_in (length uses.now) lo.now hi.now) }
     requires resources { Each (Each (HasResources t.now)) uses.now }
-    ensures { result ≡ shows_hall t.now class (contestants class first uses.now (runs_in (length uses.now) lo.now hi.now)) vars.now }
+    ensures { result ≡ hall_refutes t.now class (contestants class first uses.now (runs_in (length uses.now) lo.now hi.now)) vars.now }
 {
     if !are_of_class(class, first, uses, vars) {
         return false;

@@ -2,12 +2,12 @@
 ghost use Rattle.std.specs.Prelude.{◌≡◌, ◌≢◌};
 ghost use Rattle.box_split.specs.Boxes.{IsBox};
 ghost use Rattle.box_split.specs.BoxIn.{box_in};
-ghost use Rattle.box_rules.specs.Judged.{IsWhole, shows_whole, whole_meaning};
+ghost use Rattle.box_rules.specs.Judged.{IsWhole, refutes_whole, whole_meaning};
 ghost use Rattle.box_rules.proofs.WholeLemmas.{whole_lawful};
 ghost use Rattle.tree_check.specs.Sound.{of_judge};
 
-use crate::halls::shows_hall;
-use crate::limits::shows_limit;
+use crate::halls::hall_refutes;
+use crate::limits::limit_refutes;
 use box_split::BoxBuf;
 use choice_rank::Shape;
 use problem::Problem;
@@ -39,7 +39,7 @@ impl Refuter for WholeRefuter<'_> {
     }
 
     fn refutes(&self, reason: Reason, b: &BoxBuf) -> bool {
-        shows(self.problem, reason, b)
+        reason_refutes(self.problem, reason, b)
     }
 
     fn meets(&self, at: &[u16]) -> bool {
@@ -49,14 +49,14 @@ impl Refuter for WholeRefuter<'_> {
     ghost sound = { λ r whole. of_judge (whole_meaning r.problem.now) (whole_lawful r.problem.now whole) };
 }
 
-/// Whether a reason shows that no choice of a box meets the limits.
-fn shows(p: &Problem, reason: Reason, b: &BoxBuf) -> bool
+/// Whether a reason says that no choice of a box meets the limits.
+fn reason_refutes(p: &Problem, reason: Reason, b: &BoxBuf) -> bool
     requires whole { IsWhole p.now }
     requires is_box { IsBox p.now.shape (box_in p.now.shape b.now) }
-    ensures { result ≡ shows_whole p.now reason (box_in p.now.shape b.now) }
+    ensures { result ≡ refutes_whole p.now reason (box_in p.now.shape b.now) }
 {
     match reason {
-        Reason::Hall { class, vars } => shows_hall(p, class, &vars, b),
-        Reason::Limit(limit) => shows_limit(p, limit, b),
+        Reason::Hall { class, vars } => hall_refutes(p, class, &vars, b),
+        Reason::Limit(limit) => limit_refutes(p, limit, b),
     }
 }

@@ -1,6 +1,7 @@
 pub mod Clock
 pub mod ClockValues
 pub mod Limits
+pub mod NameOrder
 pub mod Numbers
 pub mod PinNames
 pub mod Placed

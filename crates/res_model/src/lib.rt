@@ -3,6 +3,7 @@
 
 mod clock;
 mod copy;
+mod names;
 mod opts;
 mod power;
 mod project;

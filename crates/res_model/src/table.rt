@@ -3,6 +3,7 @@ ghost use Rattle.std.specs.Prelude.{◌≡◌, ◌≢◌, ◌<◌, Some, length,
 ghost use Rattle.res_model.specs.PinNames.{place};
 
 use crate::copy::copy_parts;
+use crate::names::{name_order, signal_in};
 use crate::power::{hclk_at, speeds_at};
 use res_base::{Items, OutOfMemory, Text};
 use std::alloc::Global;
@@ -169,6 +170,7 @@ pub struct TableParts {
 #[derive(Debug, Drop)]
 pub struct Tables {
     parts: TableParts,
+    by_name: Items<usize>,
 }
 
 impl Model for Tables {
@@ -176,26 +178,30 @@ impl Model for Tables {
 
     ghost Value = { TableParts };
 
+    ghost use Rattle.res_model.specs.NameOrder.{IsNameOrder};
     ghost use Rattle.res_model.specs.Valid.{IsValid};
 
     ghost view = { λ t. t.parts };
 
-    ghost invariant = { λ t. IsValid t.parts };
+    ghost invariant = { λ t. IsValid t.parts × IsNameOrder t.by_name t.parts.signals };
 }
 
 impl Tables {
     ghost use Rattle.std.specs.Prelude.{IsSome};
     ghost use Rattle.res_base.specs.Lists.{Each};
     ghost use Rattle.res_model.specs.PinNames.{place};
+    ghost use Rattle.std.specs.Option.{option_copied};
     ghost use Rattle.res_model.specs.Power.{scale_limit, speeds_at};
+    ghost use Rattle.res_model.specs.Signals.{signal_named};
     ghost use Rattle.res_model.specs.Valid.{IsValid};
 
     /// The table that says this.
-    pub fn of(parts: TableParts) -> Tables
+    pub fn of(alloc: Global, parts: TableParts) -> Result<Tables, OutOfMemory>
         requires { IsValid parts }
-        ensures { result ≡ parts }
+        ensures { IfOk result (λ t. t ≡ parts) }
     {
-        Tables { parts }
+        let by_name = name_order(alloc, parts.signals.as_slice())?;
+        Ok(Tables { parts, by_name })
     }
 
     /// What the table says.
@@ -218,7 +224,7 @@ impl Tables {
     {
         self.keeps_rules();
         let parts = copy_parts(alloc, self.parts())?;
-        Ok(Tables::of(parts))
+        Tables::of(alloc, parts)
     }
 
     /// The version of the table's form: 1 for parts without over-drive, 2 for parts with it.
@@ -244,6 +250,14 @@ impl Tables {
             pclk1: speeds.pclk1,
             pclk2: speeds.pclk2,
         }
+    }
+
+    /// The signal of this name; None where the table has none.
+    #[tactic(auto, unfolding(crate::specs::Signals::signal_named))]
+    pub fn signal_named(&self, name: &[u8]) -> Option<&TableSignal>
+        ensures { option_copied result ≡ signal_named self.now name.now }
+    {
+        signal_in(self.parts.signals.as_slice(), self.by_name.as_slice(), name)
     }
 
     /// The place of the pin of this name in the list of pins; None where no pin has it.

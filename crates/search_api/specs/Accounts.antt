@@ -18,8 +18,8 @@ CoverOnce vars closed = (choice : List ℕ) → IsChoice vars choice → total (
 
 -- how a closed box is accounted for, with these ranks kept
 abbrev pub IsClosed : Meaning → List ℕ → List Run → Cause → Type 0
--- the reason shows the box, and is the verdict on it
-IsClosed m kept box (cause.Bad reason) = (m.shows reason box ≡ true) × (m.verdict box ≡ verdict.Bad reason)
+-- the reason refutes the box, and is the verdict on it
+IsClosed m kept box (cause.Bad reason) = (m.refutes reason box ≡ true) × (m.verdict box ≡ verdict.Bad reason)
 -- the rank was kept, and is below that of each choice in the box
 IsClosed m kept box (cause.Cut rank) = Member rank kept × (rank < low_of m.shape box)
 -- the box has one choice, of this rank, which was kept

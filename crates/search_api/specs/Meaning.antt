@@ -12,15 +12,15 @@ pub record Meaning : Type 0 where
   -- which choices are legal
   pub legal : List ℕ → Bool
   -- which reasons show a box
-  pub shows : Reason → List Run → Bool
+  pub refutes : Reason → List Run → Bool
   pub verdict : List Run → Verdict
 
 pub record IsLawful (m : Meaning) : Type 0 where
   pub is_shape : IsShape m.shape
-  -- a shown box has no legal choice
-  pub none_legal : (reason : Reason) (box : List Run) → IsBox m.shape box → m.shows reason box ≡ true → (choice : List ℕ) → IsChoice m.shape choice → LiesIn box choice → m.legal choice ≡ true → ⊥
-  -- the reason of a verdict shows the box
-  pub bad_shows : (reason : Reason) (box : List Run) → IsBox m.shape box → m.verdict box ≡ verdict.Bad reason → m.shows reason box ≡ true
+  -- a refuted box has no legal choice
+  pub none_legal : (reason : Reason) (box : List Run) → IsBox m.shape box → m.refutes reason box ≡ true → (choice : List ℕ) → IsChoice m.shape choice → LiesIn box choice → m.legal choice ≡ true → ⊥
+  -- the reason of a verdict refutes the box
+  pub bad_refutes : (reason : Reason) (box : List Run) → IsBox m.shape box → m.verdict box ≡ verdict.Bad reason → m.refutes reason box ≡ true
   -- a legal box has one choice, which is legal
   pub legal_is_one : (box : List Run) → IsBox m.shape box → m.verdict box ≡ verdict.Legal → (is_single box ≡ true) × (m.legal (lows box) ≡ true)
   -- an open box has two or more choices: a box with one is never open

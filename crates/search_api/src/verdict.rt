@@ -20,7 +20,7 @@ pub enum Reason {
 /// What a judge says of a box.
 #[derive(Clone, Copy, Debug, PartialEq, Eq)]
 pub enum Verdict {
-    /// The reason shows that no choice is legal.
+    /// The reason says that no choice is legal.
     Bad(Reason),
     /// The box has one choice, and it is legal.
     Legal,

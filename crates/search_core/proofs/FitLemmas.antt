@@ -194,7 +194,7 @@ module _ (m : Meaning) where
 
     pub bad_fits : (c new : Core) (w : ℕ) → ClosesBad m c w new → Fits m c → Fits m new
     bad_fits c new w p f =
-        subst (Fits m) (sym p.new_is) (closed_fits c w p.hand p.path p.box (cause.Bad p.reason) p.holds (lawful.bad_shows p.reason p.box (box_is c w p.hand p.path p.box p.holds) p.judged, p.judged) f)
+        subst (Fits m) (sym p.new_is) (closed_fits c w p.hand p.path p.box (cause.Bad p.reason) p.holds (lawful.bad_refutes p.reason p.box (box_is c w p.hand p.path p.box p.holds) p.judged, p.judged) f)
 
     pub keep_fits : (c new : Core) (w : ℕ) → Keeps m c w new → Fits m c → Fits m new
     keep_fits c new w p f = subst (Fits m) (sym p.new_is) (kept_fits c w p.hand p.path p.box p.rank p.holds p.judged p.rank_is f)

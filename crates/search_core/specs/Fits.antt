@@ -68,7 +68,7 @@ pub record Fits (m : Meaning) (c : Core) : Type 0 where
   pub word : IsWord c.kept (owed c.hands) c.word
   -- each rank that a worker saw was kept, and is at least the word
   pub seen : Each (λ (h : Hand). IsSeen c.kept c.word h.seen) c.hands
-  -- each closed box is accounted for: a bad reason shows it and is the verdict on it, a cut's rank was kept and is below its low,
+  -- each closed box is accounted for: a bad reason refutes it and is the verdict on it, a cut's rank was kept and is below its low,
   -- a leaf has one choice of its rank, which was kept
   pub closed : Each (IsEntry m c.kept) c.closed
   -- each kept rank is that of a legal choice, was kept once, and is the rank of a leaf that was closed

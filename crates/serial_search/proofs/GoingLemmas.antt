@@ -172,7 +172,7 @@ module _ (m : Meaning) where
       going_close pending best kept closed (entry_of path (cause.Cut rank)) g refl (record { box = box; at = e; closed = (s.0, omega (arith, s.1)) })
       (each_map (IsEntry m kept) (λ x. IsInTime m.shape x (entry_of path (cause.Cut rank))) closed (λ x h w. tt) g.entries)
 
-  pub close_bad : (pending : List ℕ) (best : Option ℕ) (kept : List ℕ) (closed : List Closed) (path : ℕ) (box : List Run) (low : ℕ) (reason : Reason) → Going m (pending ++ path ∷ []) best kept closed → box_of m.shape path ≡ Some box → low ≡ low_of m.shape box → cut_rank best low ≡ None → m.verdict box ≡ verdict.Bad reason → m.shows reason box ≡ true → Going m pending best kept (closed ++ entry_of path (cause.Bad reason) ∷ [])
+  pub close_bad : (pending : List ℕ) (best : Option ℕ) (kept : List ℕ) (closed : List Closed) (path : ℕ) (box : List Run) (low : ℕ) (reason : Reason) → Going m (pending ++ path ∷ []) best kept closed → box_of m.shape path ≡ Some box → low ≡ low_of m.shape box → cut_rank best low ≡ None → m.verdict box ≡ verdict.Bad reason → m.refutes reason box ≡ true → Going m pending best kept (closed ++ entry_of path (cause.Bad reason) ∷ [])
   close_bad pending best kept closed path box low reason g e l c v s =
       going_close pending best kept closed (entry_of path (cause.Bad reason)) g refl (record { box = box; at = e; closed = (s, v) })
       (each_map (λ (x : Closed). IfLeaf x.cause (λ r. low_at m.shape path ≤ r)) (λ x. IsInTime m.shape x (entry_of path (cause.Bad reason))) closed (λ x h w. h) (late_all m best kept closed path box low g.best_is g.entries e l c))

@@ -33,7 +33,7 @@ module _ (m : Meaning) (lawful : IsLawful m) (pending : List Place) (place : Pla
   pub walks_bad : (low : ℕ) (reason : Reason) → low ≡ low_of m.shape (box_in m.shape place.b) → cut_rank best low ≡ None → m.verdict (box_in m.shape place.b) ≡ verdict.Bad reason → Walks m pending best kept (closed ++ entry_of place.path (cause.Bad reason) ∷ [])
   walks_bad low reason l c v = record {
     at = at_rest m.shape pending place walks.at;
-    going = close_bad m (paths_of pending) best kept closed place.path (box_in m.shape place.b) low reason before place_at l c v (lawful.bad_shows reason (box_in m.shape place.b) place_box v);
+    going = close_bad m (paths_of pending) best kept closed place.path (box_in m.shape place.b) low reason before place_at l c v (lawful.bad_refutes reason (box_in m.shape place.b) place_box v);
   }
 
   pub walks_leaf : (low : ℕ) → low ≡ low_of m.shape (box_in m.shape place.b) → cut_rank best low ≡ None → m.verdict (box_in m.shape place.b) ≡ verdict.Legal → Walks m pending (Some low) (kept ++ low ∷ []) (closed ++ entry_of place.path (cause.Leaf low) ∷ [])

@@ -25,7 +25,7 @@ abbrev pub verdict_by : Bool → Bool → Verdict
 verdict_by low single = if low then verdict.Bad (reason.Limit 3) else (if single then verdict.Legal else verdict.Open)
 
 abbrev pub tiny_meaning : List VarShape → ℕ → Meaning
-tiny_meaning vars least = record { shape = vars; legal = reaches least; shows = λ r box. is_low least box; verdict = λ box. verdict_by (is_low least box) (is_single box) }
+tiny_meaning vars least = record { shape = vars; legal = reaches least; refutes = λ r box. is_low least box; verdict = λ box. verdict_by (is_low least box) (is_single box) }
 
 none_reaches : (least : ℕ) (box : List Run) → is_low least box ≡ true → (choice : List ℕ) → LiesIn box choice → reaches least choice ≡ true → ⊥
 none_reaches least [] h choice i l = cc
@@ -60,7 +60,7 @@ pub tiny_lawful : (vars : List VarShape) (least : ℕ) → IsShape vars → IsLa
 tiny_lawful vars least shape = record {
   is_shape = shape;
   none_legal = λ r box b h choice i o l. none_reaches least box h choice o l;
-  bad_shows = λ r box b e. bad_is_low (is_low least box) (is_single box) r e;
+  bad_refutes = λ r box b e. bad_is_low (is_low least box) (is_single box) r e;
   legal_is_one = λ box b e. let one = legal_is_one (is_low least box) (is_single box) e in (one.1, lows_reach least box one.0 one.1);
   open_has_two = λ box b e. open_is_more (is_low least box) (is_single box) e;
 }

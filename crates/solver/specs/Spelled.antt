@@ -1,4 +1,4 @@
--- Internal: the text of a refutation, before it is shown to be read.
+-- Internal: the text of a refutation, before it is refuted to be read.
 use Rattle.std.specs.Prelude.{◌≡◌, ℕ, List, [], Bool, true, false, Option, map}
 use Rattle.refutation.specs.declared.node.Node.{Node}
 use Rattle.refutation.specs.Canonical.{IsCanonicalOf}

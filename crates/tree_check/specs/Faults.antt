@@ -24,7 +24,7 @@ is_witness m (Some bound) box = is_single box && (m.legal (lows box) && (low_of 
 -- what a node says of its box holds
 abbrev pub keeps_rule : Meaning → Option ℕ → Node → List Run → Bool
 keeps_rule m bound (node.Split v k) box = can_split v k box
-keeps_rule m bound (node.Bad reason) box = m.shows reason box
+keeps_rule m bound (node.Bad reason) box = m.refutes reason box
 keeps_rule m bound node.Rank box = is_below bound (low_of m.shape box)
 keeps_rule m bound node.Witness box = is_witness m bound box
 

@@ -26,7 +26,7 @@ nodes_in ss = map (λ (s : Stand). s.node) ss
 -- the rule of a node holds of a box
 abbrev pub HoldsOf : Meaning → Option ℕ → Node → List Run → Type 0
 HoldsOf m bound (node.Split v k) box = CanSplit v k box
-HoldsOf m bound (node.Bad reason) box = m.shows reason box ≡ true
+HoldsOf m bound (node.Bad reason) box = m.refutes reason box ≡ true
 HoldsOf m bound node.Rank box = is_below bound (low_of m.shape box) ≡ true
 HoldsOf m bound node.Witness box = IsWitness m bound box
 

@@ -8,7 +8,7 @@ use Rattle.search_api.specs.Meaning.{Meaning, IsLawful}
 pub record HasSoundReasons (m : Meaning) : Type 0 where
   pub is_shape : IsShape m.shape
   -- a box that a reason refutes has no legal choice
-  pub none_legal : (reason : Reason) (box : List Run) → IsBox m.shape box → m.shows reason box ≡ true → (choice : List ℕ) → IsChoice m.shape choice → LiesIn box choice → m.legal choice ≡ true → ⊥
+  pub none_legal : (reason : Reason) (box : List Run) → IsBox m.shape box → m.refutes reason box ≡ true → (choice : List ℕ) → IsChoice m.shape choice → LiesIn box choice → m.legal choice ≡ true → ⊥
 
 -- the reasons of a lawful judge are sound
 pub of_judge : (m : Meaning) → IsLawful m → HasSoundReasons m

@@ -19,7 +19,7 @@ is_low least [] = false
 is_low least (r ∷ rs) = nat_lt r.high least
 
 abbrev pub tiny_meaning : List VarShape → ℕ → Meaning
-tiny_meaning vars least = record { shape = vars; legal = reaches least; shows = λ r box. is_low least box; verdict = λ box. verdict.Open }
+tiny_meaning vars least = record { shape = vars; legal = reaches least; refutes = λ r box. is_low least box; verdict = λ box. verdict.Open }
 
 none_reaches : (least : ℕ) (box : List Run) → is_low least box ≡ true → (choice : List ℕ) → LiesIn box choice → reaches least choice ≡ true → ⊥
 none_reaches least [] h choice i l = cc

@@ -27,7 +27,7 @@ pub trait Refuter {
     fn refutes(&self, reason: Reason, b: &BoxBuf) -> bool
         requires serves { serves self.now }
         requires is_box { IsBox (meaning self.now).shape (box_in (meaning self.now).shape b.now) }
-        ensures { result ≡ (meaning self.now).shows reason (box_in (meaning self.now).shape b.now) };
+        ensures { result ≡ (meaning self.now).refutes reason (box_in (meaning self.now).shape b.now) };
 
     /// Whether a choice is legal.
     fn meets(&self, at: &[u16]) -> bool

@@ -14,5 +14,5 @@ returns-in-Nothing c =
     let found = subst (IsFound (whole_meaning c.args.judge.now.problem)) c.in-Nothing.is c.requires.found in
     let one = c.args.judge.now.problem in
     let text = ap (λ b. spelling b (map form_of proof.nodes)) found.1.bound in
-    let shown = alone one None (proof_text proof) c.args.judge.now.whole tt record { nodes = proof.nodes; canonical = found.1.canonical; accepted = found.1.accepted; text_is = text } in
-    IfOk-weaker c.refuted.result _ _ (λ a e. unclocked (proof_text proof) found.0 shown e) c.refuted.ensures
+    let refuted = alone one None (proof_text proof) c.args.judge.now.whole tt record { nodes = proof.nodes; canonical = found.1.canonical; accepted = found.1.accepted; text_is = text } in
+    IfOk-weaker c.refuted.result _ _ (λ a e. unclocked (proof_text proof) found.0 refuted e) c.refuted.ensures

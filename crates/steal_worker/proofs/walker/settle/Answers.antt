@@ -47,7 +47,7 @@ returns-in-Bad-clause-walks g c =
     let most = subst (λ n. IsAtMost n (known v)) c.place_low-low.ensures c.in_default.ensures.cut in
     let is_box = path_box m.shape p.path box (g.met.J.Judge.lawful c.args.j.now).is_shape.positions at in
     let why = sym c.in-Bad.ensures.verdict in
-    let fact = walks_close m w.number p v (held_places w.held) w.closed box (cause.Bad c.in-Bad.reason) at l.1 refl ((g.met.J.Judge.lawful c.args.j.now).bad_shows c.in-Bad.reason box is_box why, why) tt most l.0 in
+    let fact = walks_close m w.number p v (held_places w.held) w.closed box (cause.Bad c.in-Bad.reason) at l.1 refl ((g.met.J.Judge.lawful c.args.j.now).bad_refutes c.in-Bad.reason box is_box why, why) tt most l.0 in
     IfOk-weaker c.close-in-Bad.result _ _ (λ hand e. walks_same m w.number c.close-in-Bad.new.walker.number [] (option_to_list hand) v (best_view c.close-in-Bad.new.walker.seat) (held_places w.held) (held_places c.close-in-Bad.new.walker.held) (w.closed ++ entry_of w.number p.path (cause.Bad c.in-Bad.reason) ∷ []) c.close-in-Bad.new.walker.closed
     (ap (λ x. x.number) c.close-in-Bad.ensures.rest) (ap option_to_list e.0) (ap (λ x. best_view x.seat) c.close-in-Bad.ensures.rest) (ap (λ x. held_places x.held) c.close-in-Bad.ensures.rest) e.1 fact) c.close-in-Bad.ensures.closed
 

@@ -1,6 +1,6 @@
 use Rattle.std.proofs.Common.{◌∙◌}
 use Rattle.box_judge.proofs.LimitLemmas.{clocks_read, limit_read}
-use Rattle.box_judge.proofs.clocks.shown_limit.Goals as goal
+use Rattle.box_judge.proofs.clocks.refuting_limit.Goals as goal
 
 pub range_broken-requires-clause-is_box : goal.range_broken-requires-clause-is_box
 range_broken-requires-clause-is_box c =

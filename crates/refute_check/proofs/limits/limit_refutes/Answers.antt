@@ -5,12 +5,12 @@ use Rattle.problem.specs.Problem.{HaveValues}
 use Rattle.res_model.specs.declared.clock.ClockBox.{ClockBox}
 use Rattle.res_model.specs.declared.clock.Facts.{Facts}
 use Rattle.res_model.specs.declared.table.TableParts.{TableParts}
-use Rattle.clock_limits.specs.Ranges.{IsClockBox, shows_limit}
+use Rattle.clock_limits.specs.Ranges.{IsClockBox, limit_refutes}
 use Rattle.box_rules.specs.Judged.{clock_box}
 use Rattle.box_rules.proofs.WholeLemmas.{is_clock_box}
 use Rattle.refute_check.proofs.ClockLemmas.{clock_box_is}
-use Rattle.refute_check.proofs.limits.shows_limit.Goals as goal
-use Rattle.refute_check.proofs.limits.shows_limit.Goals.{After-clock_box}
+use Rattle.refute_check.proofs.limits.limit_refutes.Goals as goal
+use Rattle.refute_check.proofs.limits.limit_refutes.Goals.{After-clock_box}
 
 values_are : (c : After-clock_box) → c.as_slice-values.result.now ≡ c.args.p.now.clock
 values_are c = c.as_slice-values.ensures ∙ ap (λ (q : ProblemParts). q.clock) c.parts-parts.ensures
@@ -26,9 +26,9 @@ clocks_are c =
     let sizes = subst (λ (n : ℕ). HaveValues (take n p.shape) p.clock) (w.first ∙ sym w.clock.ten) w.clock_sizes in
     box_is c ∙ clock_box_is p.shape p.clock c.args.b.now.lo c.args.b.now.hi w.clock.ten sizes c.requires.is_box
 
-pub is_shown-requires-clause-is_box : goal.is_shown-requires-clause-is_box
-is_shown-requires-clause-is_box d =
-    let c = (goal.at.is_shown-requires-clause-is_box d).After-clock_box in
+pub is_refuted_by-requires-clause-is_box : goal.is_refuted_by-requires-clause-is_box
+is_refuted_by-requires-clause-is_box d =
+    let c = (goal.at.is_refuted_by-requires-clause-is_box d).After-clock_box in
     let p = c.args.p.now in
     subst (λ (xs : List (List ℕ)). IsClockBox xs c.clock_box.result) (sym (values_are c))
     (subst (λ (x : ClockBox). IsClockBox p.clock x) (sym (clocks_are c))
@@ -39,8 +39,8 @@ returns d =
     let c = (goal.at.returns d).After-clock_box in
     let p = c.args.p.now in
     let q = c.parts-parts.result.now in
-    d.is_shown.ensures
-    ∙ ap (λ (t : TableParts). shows_limit t q.facts c.as_slice-values.result.now c.clock_box.result c.args.limit) (ap (λ (x : ProblemParts). x.tables) c.parts-parts.ensures)
-    ∙ ap (λ (f : Facts). shows_limit p.tables f c.as_slice-values.result.now c.clock_box.result c.args.limit) (ap (λ (x : ProblemParts). x.facts) c.parts-parts.ensures)
-    ∙ ap (λ (xs : List (List ℕ)). shows_limit p.tables p.facts xs c.clock_box.result c.args.limit) (values_are c)
-    ∙ ap (λ (x : ClockBox). shows_limit p.tables p.facts p.clock x c.args.limit) (clocks_are c)
+    d.is_refuted_by.ensures
+    ∙ ap (λ (t : TableParts). limit_refutes t q.facts c.as_slice-values.result.now c.clock_box.result c.args.limit) (ap (λ (x : ProblemParts). x.tables) c.parts-parts.ensures)
+    ∙ ap (λ (f : Facts). limit_refutes p.tables f c.as_slice-values.result.now c.clock_box.result c.args.limit) (ap (λ (x : ProblemParts). x.facts) c.parts-parts.ensures)
+    ∙ ap (λ (xs : List (List ℕ)). limit_refutes p.tables p.facts xs c.clock_box.result c.args.limit) (values_are c)
+    ∙ ap (λ (x : ClockBox). limit_refutes p.tables p.facts p.clock x c.args.limit) (clocks_are c)

@@ -1,8 +1,8 @@
 use Rattle.std.proofs.Common.{◌≡◌, ℕ, drop, ap, ◌∙◌, arith}
 use Rattle.problem.specs.declared.parts.ProblemParts.{ProblemParts}
 use Rattle.refute_check.proofs.CountLemmas.{AreOf, CanCount, can_count, count_is}
-use Rattle.refute_check.proofs.halls.shows_hall.Goals as goal
-use Rattle.refute_check.proofs.halls.shows_hall.Goals.{After-ends_from-hi}
+use Rattle.refute_check.proofs.halls.hall_refutes.Goals as goal
+use Rattle.refute_check.proofs.halls.hall_refutes.Goals.{After-ends_from-hi}
 
 first_is : (c : After-ends_from-hi) → c.parts-parts.result.now.first ≡ c.args.p.now.first
 first_is c = ap (λ (q : ProblemParts). q.first) c.parts-parts.ensures

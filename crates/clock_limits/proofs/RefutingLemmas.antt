@@ -1,4 +1,4 @@
--- A limit that is shown for a box leaves no choice in it that meets the limit.
+-- A limit that refutes a box leaves no choice in it that meets the limit.
 use Rattle.std.proofs.Common.{◌≡◌, ℕ, ◌<◌, Bool, true, false, ◌&&◌, ◌||◌, not, cond, nat_eq, Option, Some, None, List, [], ◌∷◌, ◌⊎◌, inl, inr, ⊎_elim, refl, sym, subst}
 use Rattle.std.proofs.lemmas.Bool.Decides.{eqb_tells}
 use Rattle.std.specs.List.{list_any, list_all}
@@ -16,7 +16,7 @@ use Rattle.res_model.specs.ClockValues.{has_over}
 use Rattle.res_model.specs.Power.{flash_rows, is_covered_by, speeds_at, scale_limit, is_within_max}
 use Rattle.clock_limits.specs.Ranges.{Allowed, allowed, IsAllowed, IsWithin, code_of, sure_pll, sure_hse, sure_over, may_pll, overlaps, has, has_wish, vco_in_range, vco_range, clk48_range, sysclk_range, hclk_reach, hclk_range, pclk1_range, pclk2_range, limits_over, stands_alone}
 use Rattle.clock_limits.specs.Fair.{IsFair}
-use Rattle.clock_limits.specs.Laws.{ShownIsBroken, ShownAloneIsBroken}
+use Rattle.clock_limits.specs.Laws.{RefutingIsBroken, RefutingAloneIsBroken}
 use Rattle.clock_limits.proofs.FairLemmas.{box_is_fair}
 use Rattle.clock_limits.proofs.FractionLemmas.{from_below, to_above, and_left, and_right, both}
 use Rattle.clock_limits.proofs.RangeLemmas.{nodes_positive, vco_in_within, vco_within, clk48_within, sysclk_within, reach_within, hclk_within, pclk1_within, pclk2_within}
@@ -229,19 +229,19 @@ wish_met : (t : TableParts) (f : Facts) (c : ClockChoice) → meets_limit t f c 
 unfolding limits_of
 wish_met t f c e = e
 
-pub shown_is_broken : ShownIsBroken
-shown_is_broken t f values b k in_range is_box shown c is met =
+pub refuting_is_broken : RefutingIsBroken
+refuting_is_broken t f values b k in_range is_box refuted c is met =
     fails (meets_limit t f c k) (is_met k (limits_over t f (allowed values b)))
     (met_along (λ j. true) (limits_of t f c) (limits_over t f (allowed values b)) k
     (along (λ j. true) t f (allowed values b) c (box_is_fair values b is_box in_range) is (λ j o. inr (wish_met t f c met)))
     refl)
-    shown
+    refuted
 
 no_wish : (f : Facts) (x : Fraction) → f.hclk ≡ None → is_as_wished f.hclk x ≡ true
 no_wish f x e = subst (λ (w : Option ℕ). is_as_wished w x ≡ true) (sym e) refl
 
-pub shown_alone_is_broken : ShownAloneIsBroken
-shown_alone_is_broken t f values b k in_range is_box shown why c is =
+pub refuting_alone_is_broken : RefutingAloneIsBroken
+refuting_alone_is_broken t f values b k in_range is_box refuted why c is =
     let fair = box_is_fair values b is_box in_range in
     let a = allowed values b in
     fails (meets_limit t f c k) (is_met k (limits_over t f a))
@@ -249,4 +249,4 @@ shown_alone_is_broken t f values b k in_range is_box shown why c is =
     (λ alone. met_along stands_alone (limits_of t f c) (limits_over t f a) k (along stands_alone t f a c fair is (λ j o. inl o)) alone)
     (λ none. met_along (λ j. true) (limits_of t f c) (limits_over t f a) k (along (λ j. true) t f a c fair is (λ j o. inr (no_wish f (hclk_of f c) none))) refl)
     why)
-    shown
+    refuted

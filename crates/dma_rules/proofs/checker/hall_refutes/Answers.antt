@@ -4,7 +4,7 @@ use Rattle.res_base.specs.VarSet.{set_size}
 use Rattle.box_split.specs.BoxIn.{runs_in}
 use Rattle.dma_rules.specs.Judged.{are_requests}
 use Rattle.dma_rules.proofs.BoxLemmas.{hall_is, hall_not}
-use Rattle.dma_rules.proofs.checker.shows_hall.Goals as goal
+use Rattle.dma_rules.proofs.checker.hall_refutes.Goals as goal
 
 pub returns-then-not-are_requests : goal.returns-then-not-are_requests
 returns-then-not-are_requests c =

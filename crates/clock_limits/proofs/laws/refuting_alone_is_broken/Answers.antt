@@ -1,0 +1,5 @@
+use Rattle.clock_limits.proofs.RefutingLemmas.{refuting_alone_is_broken}
+use Rattle.clock_limits.proofs.laws.refuting_alone_is_broken.Goals as goal
+
+pub returns : goal.returns
+returns c = refuting_alone_is_broken
