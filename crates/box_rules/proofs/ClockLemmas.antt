@@ -5,13 +5,14 @@ use Rattle.std.proofs.lemmas.Bool.Decides.{nat_tests}
 use Rattle.res_base.specs.Lists.{Each, Member}
 use Rattle.box_split.specs.Boxes.{Run, IsBox, LiesIn, highs, is_single, lows}
 use Rattle.choice_rank.specs.declared.variable.VarShape.{VarShape}
-use Rattle.problem.specs.ClockValues.{clock_at, clock_value, source_of}
+use Rattle.problem.specs.ClockValues.{clock_at, clock_value}
 use Rattle.problem.specs.Problem.{HaveValues}
 use Rattle.res_model.specs.declared.clock.ClockBox.{ClockBox}
 use Rattle.res_model.specs.Clock.{IsBetween}
-use Rattle.clock_limits.specs.Ranges.{AreInRange, IsIn, code_of, run_of, values_at}
+use Rattle.clock_limits.specs.Ranges.{AreInRange, IsIn, run_of, values_at}
 use Rattle.box_rules.proofs.ContestLemmas.{range_at, range_long}
 use Rattle.box_rules.proofs.CountLemmas.{both}
+use Rattle.res_model.specs.ClockValues.{source_number, source_of}
 
 -- the run of a variable lies within its values, and the position of a choice within the run
 pub record IsPlaced (lo hi : List ℕ) (values : List (List ℕ)) (choice : List ℕ) (k : ℕ) : Type 0 where
@@ -63,7 +64,7 @@ each_at P [] i l h = absurd (omega arith)
 each_at P (v ∷ vs) zero l h = h.0
 each_at P (v ∷ vs) (suc i) l h = each_at P vs i (omega arith) h.1
 
-code_back : (n : ℕ) → n ≤ 2 → n ≡ code_of (source_of n)
+code_back : (n : ℕ) → n ≤ 2 → n ≡ source_number (source_of n)
 code_back zero l = refl
 code_back (suc zero) l = refl
 code_back (suc (suc zero)) l = refl
@@ -79,7 +80,7 @@ module _ (values : List (List ℕ)) (b : ClockBox) (choice : List ℕ) (in_range
   within : (k : ℕ) → k < 10 → get_or choice k 0 < length (values_at values k)
   within k l = let p = placed k l in omega (arith, p.below, p.inside)
 
-  has_source : (k most : ℕ) → k < 10 → most ≤ 2 → Each (IsBetween 0 most) (values_at values k) → Member (code_of (source_of (clock_value values choice k))) (run_of values b k)
+  has_source : (k most : ℕ) → k < 10 → most ≤ 2 → Each (IsBetween 0 most) (values_at values k) → Member (source_number (source_of (clock_value values choice k))) (run_of values b k)
   has_source k most l small each =
       let h = each_at (IsBetween 0 most) (values_at values k) (get_or choice k 0) (within k l) each in
       subst (λ (v : ℕ). Member v (run_of values b k)) (code_back (clock_value values choice k) (omega (arith, h.1, small))) (has k l)

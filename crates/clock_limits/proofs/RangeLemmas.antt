@@ -3,7 +3,7 @@ use Rattle.std.proofs.Common.{◌≡◌, ℕ, ◌+◌, ◌*◌, ◌<◌, Bool, t
 use Rattle.std.proofs.lemmas.Nat.{mul-le}
 use Rattle.res_base.specs.Fraction.{Fraction, IsAtMost, at_most, whole, times, over}
 use Rattle.res_base.specs.Lists.{Member}
-use Rattle.res_model.specs.ClockValues.{hsi}
+use Rattle.res_model.specs.ClockValues.{hsi, source_number}
 use Rattle.res_model.specs.declared.clock.ClockChoice.{ClockChoice}
 use Rattle.res_model.specs.declared.clock.Facts.{Facts}
 use Rattle.res_model.specs.declared.clock.Range.{Range}
@@ -11,7 +11,7 @@ use Rattle.res_model.specs.declared.clock.Src.{Src}
 use Rattle.res_model.specs.declared.clock.Src.TheVariants.{Hsi, Hse, Pll}
 use Rattle.res_model.specs.Clock.{output, pll_input, vco_in_of, vco_of, system_output_of, clk48_of, sysclk_of, hclk_of, pclk1_of, pclk2_of}
 use Rattle.res_model.specs.Limits.{is_as_wished, is_equal}
-use Rattle.clock_limits.specs.Ranges.{Allowed, IsAllowed, IsWithin, exactly, joined, divided, multiplied, output_range, with_outputs, outputs, code_of, least_of, greatest_of, has, narrowed, input_range, vco_in_range, vco_range, system_output_range, clk48_range, sysclk_range, hclk_reach, hclk_range, pclk1_range, pclk2_range}
+use Rattle.clock_limits.specs.Ranges.{Allowed, IsAllowed, IsWithin, exactly, joined, divided, multiplied, output_range, with_outputs, outputs, least_of, greatest_of, has, narrowed, input_range, vco_in_range, vco_range, system_output_range, clk48_range, sysclk_range, hclk_reach, hclk_range, pclk1_range, pclk2_range}
 use Rattle.clock_limits.specs.Fair.{IsFair, IsSpread}
 use Rattle.clock_limits.proofs.FractionLemmas.{fact_of, other_way, same_is_at_most, times_mono, over_mono, at_most_trans, and_left, and_right}
 use Rattle.clock_limits.proofs.SpreadLemmas.{least_each, greatest_each}
@@ -109,7 +109,7 @@ outputs_within hse pll (u ∷ us) s x p m w =
     (λ k. with_member hse pll (output_range hse pll u) us s x p (output_proper hse pll u p) k w)
     m
 
-output_within : (hse : ℕ) (pll : Range) (x : Fraction) (s : Src) → IsWithin pll x → IsWithin (output_range hse pll (code_of s)) (output hse x s)
+output_within : (hse : ℕ) (pll : Range) (x : Fraction) (s : Src) → IsWithin pll x → IsWithin (output_range hse pll (source_number s)) (output hse x s)
 output_within hse pll x Hsi w = exactly_within (whole hsi)
 output_within hse pll x Hse w = exactly_within (whole hse)
 output_within hse pll x Pll w = w
@@ -152,7 +152,7 @@ system_proper f a fair =
 pub vco_in_within : (f : Facts) (a : Allowed) (c : ClockChoice) → IsAllowed c a → IsWithin (vco_in_range f a) (vco_in_of f c)
 vco_in_within f a c is =
     divided_within (input_range f a) a.m (pll_input f c) c.m
-    (outputs_within f.hse_hz (exactly (whole hsi)) a.psrc (code_of c.psrc) (pll_input f c) (whole_proper hsi) is.psrc
+    (outputs_within f.hse_hz (exactly (whole hsi)) a.psrc (source_number c.psrc) (pll_input f c) (whole_proper hsi) is.psrc
     (output_within f.hse_hz (exactly (whole hsi)) (whole hsi) c.psrc (exactly_within (whole hsi))))
     is.m
 
@@ -164,7 +164,7 @@ clk48_within f a c is = divided_within (vco_range f a) a.q (vco_of f c) c.q (vco
 
 pub sysclk_within : (f : Facts) (a : Allowed) (c : ClockChoice) → IsFair a → IsAllowed c a → IsWithin (sysclk_range f a) (sysclk_of f c)
 sysclk_within f a c fair is =
-    outputs_within f.hse_hz (system_output_range f a) a.src (code_of c.src) (sysclk_of f c) (system_proper f a fair) is.src
+    outputs_within f.hse_hz (system_output_range f a) a.src (source_number c.src) (sysclk_of f c) (system_proper f a fair) is.src
     (output_within f.hse_hz (system_output_range f a) (system_output_of f c) c.src
     (divided_within (vco_range f a) a.p (vco_of f c) c.p (vco_within f a c is) is.p))
 

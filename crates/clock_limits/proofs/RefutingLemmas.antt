@@ -12,9 +12,9 @@ use Rattle.res_model.specs.declared.clock.Src.TheVariants.{Hsi, Hse, Pll}
 use Rattle.res_model.specs.declared.table.TableParts.{TableParts}
 use Rattle.res_model.specs.Clock.{is_hse, is_pll, pll_used, hse_used, vco_in_of, vco_of, clk48_of, sysclk_of, hclk_of, pclk1_of, pclk2_of}
 use Rattle.res_model.specs.Limits.{where_so, are_within, is_equal, is_as_wished, is_fed, mhz_48, limits_of, is_met, meets_limit}
-use Rattle.res_model.specs.ClockValues.{has_over}
+use Rattle.res_model.specs.ClockValues.{has_over, source_number}
 use Rattle.res_model.specs.Power.{flash_rows, is_covered_by, speeds_at, scale_limit, is_within_max}
-use Rattle.clock_limits.specs.Ranges.{Allowed, allowed, IsAllowed, IsWithin, code_of, sure_pll, sure_hse, sure_over, may_pll, overlaps, has, has_wish, vco_in_range, vco_range, clk48_range, sysclk_range, hclk_reach, hclk_range, pclk1_range, pclk2_range, limits_over, stands_alone}
+use Rattle.clock_limits.specs.Ranges.{Allowed, allowed, IsAllowed, IsWithin, sure_pll, sure_hse, sure_over, may_pll, overlaps, has, has_wish, vco_in_range, vco_range, clk48_range, sysclk_range, hclk_reach, hclk_range, pclk1_range, pclk2_range, limits_over, stands_alone}
 use Rattle.clock_limits.specs.Fair.{IsFair}
 use Rattle.clock_limits.specs.Laws.{RefutingIsBroken, RefutingAloneIsBroken}
 use Rattle.clock_limits.proofs.FairLemmas.{box_is_fair}
@@ -82,12 +82,12 @@ or_right : (x y : Bool) → y ≡ true → (x || y) ≡ true
 or_right true y e = refl
 or_right false y e = e
 
-is_pll_code : (s : Src) → nat_eq (code_of s) 2 ≡ true → is_pll s ≡ true
+is_pll_code : (s : Src) → nat_eq (source_number s) 2 ≡ true → is_pll s ≡ true
 is_pll_code Hsi e = absurd (cc)
 is_pll_code Hse e = absurd (cc)
 is_pll_code Pll e = refl
 
-is_hse_code : (s : Src) → nat_eq (code_of s) 1 ≡ true → is_hse s ≡ true
+is_hse_code : (s : Src) → nat_eq (source_number s) 1 ≡ true → is_hse s ≡ true
 is_hse_code Hsi e = absurd (cc)
 is_hse_code Hse e = refl
 is_hse_code Pll e = absurd (cc)
@@ -95,21 +95,21 @@ is_hse_code Pll e = absurd (cc)
 pll_is_used : (f : Facts) (a : Allowed) (c : ClockChoice) → IsAllowed c a → sure_pll f a ≡ true → pll_used f c ≡ true
 pll_is_used f a c is e =
     ⊎_elim
-    (λ all. or_left (is_pll c.src) f.need48 (is_pll_code c.src (all_member (λ s. nat_eq s 2) a.src (code_of c.src) all is.src)))
+    (λ all. or_left (is_pll c.src) f.need48 (is_pll_code c.src (all_member (λ s. nat_eq s 2) a.src (source_number c.src) all is.src)))
     (λ need. or_right (is_pll c.src) f.need48 need)
     (or_cases (list_all (λ s. nat_eq s 2) a.src) f.need48 e)
 
 hse_is_used : (f : Facts) (a : Allowed) (c : ClockChoice) → IsAllowed c a → sure_hse f a ≡ true → hse_used f c ≡ true
 hse_is_used f a c is e =
     ⊎_elim
-    (λ all. or_left (is_hse c.src) (pll_used f c && is_hse c.psrc) (is_hse_code c.src (all_member (λ s. nat_eq s 1) a.src (code_of c.src) all is.src)))
+    (λ all. or_left (is_hse c.src) (pll_used f c && is_hse c.psrc) (is_hse_code c.src (all_member (λ s. nat_eq s 1) a.src (source_number c.src) all is.src)))
     (λ pll. or_right (is_hse c.src) (pll_used f c && is_hse c.psrc)
     (both (pll_used f c) (is_hse c.psrc)
     (pll_is_used f a c is (and_left (sure_pll f a) (list_all (λ s. nat_eq s 1) a.psrc) pll))
-    (is_hse_code c.psrc (all_member (λ s. nat_eq s 1) a.psrc (code_of c.psrc) (and_right (sure_pll f a) (list_all (λ s. nat_eq s 1) a.psrc) pll) is.psrc))))
+    (is_hse_code c.psrc (all_member (λ s. nat_eq s 1) a.psrc (source_number c.psrc) (and_right (sure_pll f a) (list_all (λ s. nat_eq s 1) a.psrc) pll) is.psrc))))
     (or_cases (list_all (λ s. nat_eq s 1) a.src) (sure_pll f a && list_all (λ s. nat_eq s 1) a.psrc) e)
 
-pll_code : (s : Src) → is_pll s ≡ true → nat_eq (code_of s) 2 ≡ true
+pll_code : (s : Src) → is_pll s ≡ true → nat_eq (source_number s) 2 ≡ true
 pll_code Hsi e = absurd (cc)
 pll_code Hse e = absurd (cc)
 pll_code Pll e = refl
@@ -118,7 +118,7 @@ pll_code Pll e = refl
 pll_may : (f : Facts) (a : Allowed) (c : ClockChoice) → IsAllowed c a → pll_used f c ≡ true → may_pll f a ≡ true
 pll_may f a c is e =
     ⊎_elim
-    (λ src. or_left (list_any (λ s. nat_eq s 2) a.src) f.need48 (any_member (λ s. nat_eq s 2) a.src (code_of c.src) is.src (pll_code c.src src)))
+    (λ src. or_left (list_any (λ s. nat_eq s 2) a.src) f.need48 (any_member (λ s. nat_eq s 2) a.src (source_number c.src) is.src (pll_code c.src src)))
     (λ need. or_right (list_any (λ s. nat_eq s 2) a.src) f.need48 need)
     (or_cases (is_pll c.src) f.need48 e)
 

@@ -4,7 +4,7 @@ use Rattle.std.specs.List.{list_any}
 use Rattle.res_base.specs.Fraction.{Fraction, IsAtMost, at_most, whole, over}
 use Rattle.res_base.specs.Lists.{Member}
 use Rattle.res_base.proofs.ListLemmas.{member_one}
-use Rattle.res_model.specs.ClockValues.{has_over, hsi}
+use Rattle.res_model.specs.ClockValues.{has_over, hsi, source_number}
 use Rattle.res_model.specs.declared.clock.ClockBox.{ClockBox}
 use Rattle.res_model.specs.declared.clock.ClockChoice.{ClockChoice}
 use Rattle.res_model.specs.declared.clock.Facts.{Facts}
@@ -15,7 +15,7 @@ use Rattle.res_model.specs.declared.table.TableParts.{TableParts}
 use Rattle.res_model.specs.Clock.{output, is_hse, is_pll, pll_used, hse_used, pll_input, vco_in_of, vco_of, system_output_of, clk48_of, sysclk_of, hclk_of, pclk1_of, pclk2_of}
 use Rattle.res_model.specs.Limits.{where_so, are_within, is_equal, is_as_wished, is_fed, mhz_48, limits_of, first_broken}
 use Rattle.res_model.specs.Power.{flash_rows, is_covered_by, is_covered, speeds_at, scale_limit, is_within_max}
-use Rattle.clock_limits.specs.Ranges.{IsClockBox, IsOnePlace, IsRun, Allowed, allowed, IsIn, code_of, run_of, values_at, exactly, divided, multiplied, output_range, sure_pll, sure_hse, sure_over, may_pll, overlaps, has, has_wish, narrowed, input_range, vco_in_range, vco_range, system_output_range, clk48_range, sysclk_range, hclk_reach, hclk_range, pclk1_range, pclk2_range, limits_over}
+use Rattle.clock_limits.specs.Ranges.{IsClockBox, IsOnePlace, IsRun, Allowed, allowed, IsIn, run_of, values_at, exactly, divided, multiplied, output_range, sure_pll, sure_hse, sure_over, may_pll, overlaps, has, has_wish, narrowed, input_range, vco_in_range, vco_range, system_output_range, clk48_range, sysclk_range, hclk_reach, hclk_range, pclk1_range, pclk2_range, limits_over}
 use Rattle.std.proofs.lemmas.Nat.{mul-le}
 use Rattle.clock_limits.specs.Fair.{IsSpread}
 use Rattle.clock_limits.proofs.SpreadLemmas.{least_each}
@@ -27,8 +27,8 @@ use Rattle.clock_limits.proofs.RangeLemmas.{ArePositive, nodes_positive}
 -- ---- the values of one choice
 abbrev values_of : ClockChoice → Allowed
 values_of c = record {
-  src = code_of c.src ∷ [];
-  psrc = code_of c.psrc ∷ [];
+  src = source_number c.src ∷ [];
+  psrc = source_number c.psrc ∷ [];
   hpre = c.hpre ∷ [];
   p = c.p ∷ [];
   m = c.m ∷ [];
@@ -57,9 +57,9 @@ allowed_one : (values : List (List ℕ)) (b : ClockBox) (c : ClockChoice) → Is
 allowed_one values b c is one among =
     let run : (k : ℕ) → k < 10 → length (run_of values b k) ≡ 1 = λ k below. run_long values b k (is.runs k below) (one k below) in
     same_values (run_of values b 0) (run_of values b 1) (run_of values b 2) (run_of values b 3) (run_of values b 4) (run_of values b 5) (run_of values b 6) (run_of values b 7) (run_of values b 8) (run_of values b 9)
-    (code_of c.src ∷ []) (code_of c.psrc ∷ []) (c.hpre ∷ []) (c.p ∷ []) (c.m ∷ []) (c.n ∷ []) (c.q ∷ []) (c.ppre1 ∷ []) (c.ppre2 ∷ []) (c.vos ∷ [])
-    (one_value (code_of c.src) (run_of values b 0) (run 0 (omega arith)) among.src)
-    (one_value (code_of c.psrc) (run_of values b 1) (run 1 (omega arith)) among.psrc)
+    (source_number c.src ∷ []) (source_number c.psrc ∷ []) (c.hpre ∷ []) (c.p ∷ []) (c.m ∷ []) (c.n ∷ []) (c.q ∷ []) (c.ppre1 ∷ []) (c.ppre2 ∷ []) (c.vos ∷ [])
+    (one_value (source_number c.src) (run_of values b 0) (run 0 (omega arith)) among.src)
+    (one_value (source_number c.psrc) (run_of values b 1) (run 1 (omega arith)) among.psrc)
     (one_value c.hpre (run_of values b 2) (run 2 (omega arith)) among.hpre)
     (one_value c.p (run_of values b 3) (run 3 (omega arith)) among.p)
     (one_value c.m (run_of values b 4) (run 4 (omega arith)) among.m)
@@ -73,7 +73,7 @@ allowed_one values b c is one among =
     same_values a b c d e f g h i j a' b' c' d' e' f' g' h' i' j' p q r s t u v w x y = cc
 
 -- ---- the ranges of one choice are its nodes
-output_one : (hse : ℕ) (x : Fraction) (s : Src) → output_range hse (exactly x) (code_of s) ≡ exactly (output hse x s)
+output_one : (hse : ℕ) (x : Fraction) (s : Src) → output_range hse (exactly x) (source_number s) ≡ exactly (output hse x s)
 output_one hse x Hsi = refl
 output_one hse x Hse = refl
 output_one hse x Pll = refl
@@ -94,7 +94,7 @@ clk48_one : (f : Facts) (c : ClockChoice) → clk48_range f (values_of c) ≡ ex
 clk48_one f c = ap (λ (r : Range). divided r (c.q ∷ [])) (vco_one f c)
 
 sysclk_one : (f : Facts) (c : ClockChoice) → sysclk_range f (values_of c) ≡ exactly (sysclk_of f c)
-sysclk_one f c = ap (λ (r : Range). output_range f.hse_hz r (code_of c.src)) (system_one f c) ∙ output_one f.hse_hz (system_output_of f c) c.src
+sysclk_one f c = ap (λ (r : Range). output_range f.hse_hz r (source_number c.src)) (system_one f c) ∙ output_one f.hse_hz (system_output_of f c) c.src
 
 reach_one : (f : Facts) (c : ClockChoice) → hclk_reach f (values_of c) ≡ exactly (hclk_of f c)
 reach_one f c = ap (λ (r : Range). divided r (c.hpre ∷ [])) (sysclk_one f c)
@@ -151,27 +151,27 @@ rows_test [] r x p s = refl
 rows_test (row ∷ rows) r x p s = cc (least_test r x (whole row) p s, rows_test rows r x p s)
 
 -- ---- what is sure of one choice is so
-pll_code : (s : Src) → nat_eq (code_of s) 2 ≡ is_pll s
+pll_code : (s : Src) → nat_eq (source_number s) 2 ≡ is_pll s
 pll_code Hsi = refl
 pll_code Hse = refl
 pll_code Pll = refl
 
-hse_code : (s : Src) → nat_eq (code_of s) 1 ≡ is_hse s
+hse_code : (s : Src) → nat_eq (source_number s) 1 ≡ is_hse s
 hse_code Hsi = refl
 hse_code Hse = refl
 hse_code Pll = refl
 
 sure_pll_one : (f : Facts) (c : ClockChoice) → sure_pll f (values_of c) ≡ pll_used f c
-sure_pll_one f c = cc (and_true (nat_eq (code_of c.src) 2), pll_code c.src)
+sure_pll_one f c = cc (and_true (nat_eq (source_number c.src) 2), pll_code c.src)
 
 sure_hse_one : (f : Facts) (c : ClockChoice) → sure_hse f (values_of c) ≡ hse_used f c
-sure_hse_one f c = cc (and_true (nat_eq (code_of c.src) 1), hse_code c.src, and_true (nat_eq (code_of c.psrc) 1), hse_code c.psrc, sure_pll_one f c)
+sure_hse_one f c = cc (and_true (nat_eq (source_number c.src) 1), hse_code c.src, and_true (nat_eq (source_number c.psrc) 1), hse_code c.psrc, sure_pll_one f c)
 
 sure_over_one : (c : ClockChoice) → sure_over (values_of c) ≡ has_over c.vos
 sure_over_one c = and_true (has_over c.vos)
 
 may_pll_one : (f : Facts) (c : ClockChoice) → may_pll f (values_of c) ≡ pll_used f c
-may_pll_one f c = cc (or_false (nat_eq (code_of c.src) 2), pll_code c.src)
+may_pll_one f c = cc (or_false (nat_eq (source_number c.src) 2), pll_code c.src)
 
 -- ---- all limits
 same_limits : (a b c d e f g h i j k l m n o a' b' c' d' e' f' g' h' i' j' k' l' m' n' o' : Bool) → a ≡ a' → b ≡ b' → c ≡ c' → d ≡ d' → e ≡ e' → f ≡ f' → g ≡ g' → h ≡ h' → i ≡ i' → j ≡ j' → k ≡ k' → l ≡ l' → m ≡ m' → n ≡ n' → o ≡ o' → ◌≡◌ {A = List (ℕ × Bool)} ((3, a) ∷ (4, b) ∷ (5, c) ∷ (6, d) ∷ (7, e) ∷ (8, f) ∷ (9, g) ∷ (10, h) ∷ (11, i) ∷ (12, j) ∷ (13, k) ∷ (14, l) ∷ (15, m) ∷ (16, n) ∷ (17, o) ∷ []) ((3, a') ∷ (4, b') ∷ (5, c') ∷ (6, d') ∷ (7, e') ∷ (8, f') ∷ (9, g') ∷ (10, h') ∷ (11, i') ∷ (12, j') ∷ (13, k') ∷ (14, l') ∷ (15, m') ∷ (16, n') ∷ (17, o') ∷ [])

@@ -4,7 +4,7 @@ use Rattle.std.specs.Prelude.{◌≡◌, ℕ, ◌+◌, ◌<◌, ◌≤◌, ◌==
 use Rattle.std.specs.List.{list_all, list_any}
 use Rattle.res_base.specs.Fraction.{Fraction, IsAtMost, at_most, whole, times, over}
 use Rattle.res_base.specs.Lists.{Each, Member}
-use Rattle.res_model.specs.ClockValues.{has_over, hsi}
+use Rattle.res_model.specs.ClockValues.{has_over, hsi, source_number}
 use Rattle.res_model.specs.Clock.{IsBetween}
 use Rattle.res_model.specs.Limits.{where_so, is_fed, mhz_48, first_broken, is_met}
 use Rattle.res_model.specs.Power.{is_covered, speeds_at, scale_limit, is_within_max}
@@ -17,12 +17,6 @@ use Rattle.res_model.specs.declared.clock.Src.TheVariants.{Hsi, Hse, Pll}
 use Rattle.res_model.specs.declared.table.TableParts.{TableParts}
 
 -- ---- boxes
-
--- how a source is written as a value
-abbrev pub code_of : Src → ℕ
-code_of Hsi = 0
-code_of Hse = 1
-code_of Pll = 2
 
 -- the values of the clock variable of this number, and those at its positions in the box
 abbrev pub values_at : List (List ℕ) → ℕ → List ℕ
@@ -60,8 +54,8 @@ allowed values b = record {
 
 -- each value of the choice is one of these
 pub record IsAllowed (c : ClockChoice) (a : Allowed) : Type 0 where
-  pub src : Member (code_of c.src) a.src
-  pub psrc : Member (code_of c.psrc) a.psrc
+  pub src : Member (source_number c.src) a.src
+  pub psrc : Member (source_number c.psrc) a.psrc
   pub hpre : Member c.hpre a.hpre
   pub p : Member c.p a.p
   pub m : Member c.m a.m

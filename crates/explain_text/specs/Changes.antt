@@ -2,12 +2,11 @@
 -- for each other signal that leaves its home.
 use Rattle.std.specs.Prelude.{ℕ, ◌==◌, List, [], ◌++◌, length, Option, Some, None, codes, decimal, if◌then◌else◌, slice_get, slice_index_or}
 use Rattle.std.specs.Option.{option_map_or}
-use Rattle.clock_limits.specs.Ranges.{code_of}
 use Rattle.clock_tree.specs.ClockText.{source_word}
-use Rattle.problem.specs.ClockValues.{clock_at, nowhere, source_of}
+use Rattle.problem.specs.ClockValues.{clock_at, nowhere}
 use Rattle.problem.specs.Meets.{use_of}
 use Rattle.problem.specs.declared.parts.ProblemParts.{ProblemParts}
-use Rattle.res_model.specs.ClockValues.{has_over, scale_of_step}
+use Rattle.res_model.specs.ClockValues.{has_over, scale_of_step, source_number, source_of}
 use Rattle.res_model.specs.declared.clock.ClockChoice.{ClockChoice}
 use Rattle.res_model.specs.declared.clock.Src.{Src}
 use Rattle.res_model.specs.declared.project.Home.{Home}
@@ -24,7 +23,7 @@ change_line word home value = word ++ codes " changes from " ++ home ++ codes " 
 
 -- a source, with HSI 0, HSE 1 and PLL 2 as its home
 unfoldable pub source_change : List ℕ → ℕ → Src → List ℕ
-source_change word home source = if home == code_of source then [] else change_line word (source_word (source_of home)) (source_word source)
+source_change word home source = if home == source_number source then [] else change_line word (source_word (source_of home)) (source_word source)
 
 -- a divider or a factor
 unfoldable pub number_change : List ℕ → ℕ → ℕ → List ℕ

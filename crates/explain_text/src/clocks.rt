@@ -1,10 +1,8 @@
 //! What a choice changes of the clock variables.
 ghost use Rattle.std.specs.Prelude.{◌≡◌, ◌<◌, ◌++◌, IfOk, OnOk, string_bytes};
-ghost use Rattle.clock_limits.specs.Ranges.{code_of};
 ghost use Rattle.clock_tree.specs.ClockText.{source_word};
-ghost use Rattle.problem.specs.ClockValues.{source_of};
 ghost use Rattle.explain_text.specs.Changes.{bus_changes, change_line, home_value, number_change, over_word, pll_changes, source_change, source_changes, step_change, step_text};
-ghost use Rattle.res_model.specs.ClockValues.{has_over, scale_of_step};
+ghost use Rattle.res_model.specs.ClockValues.{has_over, scale_of_step, source_number, source_of};
 
 use res_model::{ClockChoice, Home, Src};
 use std::alloc::{AllocError, Global};

@@ -6,11 +6,11 @@ use Rattle.res_base.specs.Fraction.{Fraction, whole, times, over}
 use Rattle.res_model.specs.Clock.{output}
 use Rattle.res_model.specs.Limits.{AreWithin}
 use Rattle.res_model.specs.Power.{flash_rows, speeds_at, scale_limit}
-use Rattle.res_model.specs.ClockValues.{has_over, hsi, scale_of_step}
+use Rattle.res_model.specs.ClockValues.{has_over, hsi, scale_of_step, source_of}
 use Rattle.res_model.specs.declared.clock.Facts.{Facts}
 use Rattle.res_model.specs.declared.table.TableParts.{TableParts}
 use Rattle.reg_machine.specs.Words.{pll_source}
-use Rattle.reg_machine.specs.Tree.{m_of, n_of, p_of, q_of, hpre_of, ppre1_of, ppre2_of, hpre_value, ppre_value, src_of}
+use Rattle.reg_machine.specs.Tree.{m_of, n_of, p_of, q_of, hpre_of, ppre1_of, ppre2_of, hpre_value, ppre_value}
 use Rattle.reg_machine.specs.Legal.{NodesFit}
 use Rattle.reg_machine.specs.Power.{power_of, scale_of, step_from}
 use Rattle.reg_machine.specs.declared.op.Answer.{Answer}
@@ -24,7 +24,7 @@ use Rattle.init_gen.specs.declared.setting.Oscillator.TheVariants as oscillator
 -- ---- the clocks that RCC_PLLCFGR says
 
 abbrev pub osc_of : Facts → ℕ → Fraction
-osc_of f source = output f.hse_hz (whole hsi) (src_of source)
+osc_of f source = output f.hse_hz (whole hsi) (source_of source)
 
 abbrev pub vco_in_at : Facts → ℕ → Fraction
 vco_in_at f v = over (osc_of f (pll_source v)) (m_of v)
@@ -33,7 +33,7 @@ abbrev pub vco_at : Facts → ℕ → Fraction
 vco_at f v = times (vco_in_at f v) (n_of v)
 
 abbrev pub sys_at : Facts → ℕ → ℕ → Fraction
-sys_at f v source = output f.hse_hz (over (vco_at f v) (p_of v)) (src_of source)
+sys_at f v source = output f.hse_hz (over (vco_at f v) (p_of v)) (source_of source)
 
 abbrev pub rows_of : TableParts → Target → List ℕ
 rows_of t want = flash_rows t want.facts.vdd
@@ -64,8 +64,8 @@ pub record CodesFit (t : TableParts) (want : Target) (sys : Fraction) (c : Codes
   pub src_on : is_on c c.src ≡ true
   pub vco_in : c.pll ≡ true → AreWithin t.limits.vco_in (over (osc_of want.facts c.psrc) c.m)
   pub vco : c.pll ≡ true → AreWithin t.limits.vco (times (over (osc_of want.facts c.psrc) c.m) c.n)
-  pub sys_on : c.pll ≡ true → output want.facts.hse_hz (over (times (over (osc_of want.facts c.psrc) c.m) c.n) (2 * (c.pcode + 1))) (src_of c.src) ≡ sys
-  pub sys_off : c.pll ≡ false → (pll : Fraction) → output want.facts.hse_hz pll (src_of c.src) ≡ sys
+  pub sys_on : c.pll ≡ true → output want.facts.hse_hz (over (times (over (osc_of want.facts c.psrc) c.m) c.n) (2 * (c.pcode + 1))) (source_of c.src) ≡ sys
+  pub sys_off : c.pll ≡ false → (pll : Fraction) → output want.facts.hse_hz pll (source_of c.src) ≡ sys
   pub nodes : NodesFit (speeds_at t c.step) (scale_limit t c.step) (rows_of t want) c.wait sys (hpre_value c.hcode) (ppre_value c.code1) (ppre_value c.code2)
   -- the power step: its scale, and over-drive, which runs beside the PLL alone
   pub over_is : c.over ≡ has_over c.step

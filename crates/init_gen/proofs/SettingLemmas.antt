@@ -10,7 +10,7 @@ use Rattle.res_base.proofs.ListLemmas.{each_in}
 use Rattle.res_model.specs.Clock.{IsOscillator, is_hse, is_pll, hse_used, pll_used, output, vco_in_of, vco_of, system_output_of, sysclk_of, timer, where_used, nodes_of}
 use Rattle.res_model.specs.Limits.{AreWithin, IsWithinMax}
 use Rattle.res_model.specs.Power.{has_supply, range_at, rows_of_range, flash_rows, plain_speeds, over_speeds, speeds_at, max_of, scale_limit}
-use Rattle.res_model.specs.ClockValues.{hsi, ahb_dividers, apb_dividers, pll_dividers, known_steps, has_over, scale_of_step}
+use Rattle.res_model.specs.ClockValues.{hsi, ahb_dividers, apb_dividers, pll_dividers, known_steps, has_over, scale_of_step, source_number, source_of}
 use Rattle.res_model.specs.Valid.{IsValid, HasOver, IsScale, IsFlashRange}
 use Rattle.res_model.specs.declared.clock.ClockChoice.{ClockChoice}
 use Rattle.res_model.specs.declared.clock.Facts.{Facts}
@@ -24,13 +24,13 @@ use Rattle.res_model.specs.declared.table.Scale.{Scale}
 use Rattle.res_model.specs.declared.table.TableParts.{TableParts}
 use Rattle.reg_machine.specs.Legal.{NodesFit, IsLegal}
 use Rattle.reg_machine.specs.Power.{vos_mask}
-use Rattle.reg_machine.specs.Tree.{src_of, m_of, hpre_value, ppre_value, tree_of}
+use Rattle.reg_machine.specs.Tree.{m_of, hpre_value, ppre_value, tree_of}
 use Rattle.reg_machine.specs.Reset.{reset_of}
 use Rattle.reg_machine.specs.Run.{Sound}
 use Rattle.reg_machine.specs.declared.state.State.{State}
 use Rattle.reg_machine.specs.declared.state.Target.{Target}
 use Rattle.reg_machine.proofs.SoundLemmas.{sound_right}
-use Rattle.init_gen.specs.Codes.{src_code, p_code, hpre_code, ppre_code, oscillator_of, vos_word, codes_of, IsSmall}
+use Rattle.init_gen.specs.Codes.{p_code, hpre_code, ppre_code, oscillator_of, vos_word, codes_of, IsSmall}
 use Rattle.init_gen.specs.Good.{IsSettable, IsAllowed, IsRight}
 use Rattle.init_gen.specs.PinWrites.{wanted}
 use Rattle.init_gen.specs.Writes.{writes_of, target_of}
@@ -42,17 +42,17 @@ use Rattle.init_gen.proofs.WritesLemmas.{writes_sound}
 
 -- ---- codes and back
 
-pub src_back : (x : Src) → src_of (src_code x) ≡ x
+pub src_back : (x : Src) → source_of (source_number x) ≡ x
 src_back Hsi = refl
 src_back Hse = refl
 src_back Pll = refl
 
-src_small : (x : Src) → src_code x < 3
+src_small : (x : Src) → source_number x < 3
 src_small Hsi = omega arith
 src_small Hse = omega arith
 src_small Pll = omega arith
 
-psrc_small : (x : Src) → IsOscillator x → src_code x < 2
+psrc_small : (x : Src) → IsOscillator x → source_number x < 2
 psrc_small Hsi o = omega arith
 psrc_small Hse o = omega arith
 psrc_small Pll o = absurd o
@@ -116,12 +116,12 @@ or_true true = refl
 or_true false = refl
 
 on_psrc : (src psrc : Src) (need by u : Bool) → IsOscillator psrc → u ≡ true
-    → cond (eqb (src_code psrc) 0) true (cond (eqb (src_code psrc) 1) (has_hse (oscillator_of (is_hse src || (u && is_hse psrc)) by)) (eqb (src_code psrc) 2 && u)) ≡ true
+    → cond (eqb (source_number psrc) 0) true (cond (eqb (source_number psrc) 1) (has_hse (oscillator_of (is_hse src || (u && is_hse psrc)) by)) (eqb (source_number psrc) 2 && u)) ≡ true
 on_psrc src Hsi need by u o e = refl
 on_psrc src Hse need by u o e = has_osc (is_hse src || (u && true)) by ∙ ap (λ b. is_hse src || (b && true)) e ∙ or_true (is_hse src)
 on_psrc src Pll need by u o e = absurd o
 
-on_src : (src psrc : Src) (need by : Bool) → cond (eqb (src_code src) 0) true (cond (eqb (src_code src) 1) (has_hse (oscillator_of (is_hse src || ((is_pll src || need) && is_hse psrc)) by)) (eqb (src_code src) 2 && (is_pll src || need))) ≡ true
+on_src : (src psrc : Src) (need by : Bool) → cond (eqb (source_number src) 0) true (cond (eqb (source_number src) 1) (has_hse (oscillator_of (is_hse src || ((is_pll src || need) && is_hse psrc)) by)) (eqb (source_number src) 2 && (is_pll src || need))) ≡ true
 on_src Hsi psrc need by = refl
 on_src Hse psrc need by = has_osc true by
 on_src Pll psrc need by = refl
@@ -129,7 +129,7 @@ on_src Pll psrc need by = refl
 differ : {b : Bool} → b ≡ true → b ≡ false → ⊥
 differ h k = cc
 
-off_src : (src : Src) (need : Bool) (h : ℕ) (x y : Fraction) → (is_pll src || need) ≡ false → output h x (src_of (src_code src)) ≡ output h y src
+off_src : (src : Src) (need : Bool) (h : ℕ) (x y : Fraction) → (is_pll src || need) ≡ false → output h x (source_of (source_number src)) ≡ output h y src
 off_src Hsi need h x y e = refl
 off_src Hse need h x y e = refl
 off_src Pll need h x y e = absurd (differ refl e)
@@ -307,8 +307,8 @@ module _ (t : TableParts) (valid : IsValid t) (s : Setting) (h : IsSettable s) (
     vco_in = λ e. subst (λ x. AreWithin t.limits.vco_in (over (output s.facts.hse_hz (whole hsi) x) s.clock.m)) (sym (src_back s.clock.psrc)) (a.vco_in e);
     vco = λ e. subst (λ x. AreWithin t.limits.vco (times (over (output s.facts.hse_hz (whole hsi) x) s.clock.m) s.clock.n)) (sym (src_back s.clock.psrc)) (a.vco e);
     sys_on = λ e.
-        ap (λ x. output s.facts.hse_hz (over (times (over (output s.facts.hse_hz (whole hsi) x) s.clock.m) s.clock.n) (2 * (k.pcode + 1))) (src_of k.src)) (src_back s.clock.psrc)
-        ∙ ap (λ p. output s.facts.hse_hz (over (vco_of s.facts s.clock) p) (src_of k.src)) (p_back s.clock.p h.clock.p)
+        ap (λ x. output s.facts.hse_hz (over (times (over (output s.facts.hse_hz (whole hsi) x) s.clock.m) s.clock.n) (2 * (k.pcode + 1))) (source_of k.src)) (src_back s.clock.psrc)
+        ∙ ap (λ p. output s.facts.hse_hz (over (vco_of s.facts s.clock) p) (source_of k.src)) (p_back s.clock.p h.clock.p)
         ∙ ap (λ x. output s.facts.hse_hz (system_output_of s.facts s.clock) x) (src_back s.clock.src);
     sys_off = λ e pll. off_src s.clock.src s.facts.need48 s.facts.hse_hz pll (system_output_of s.facts s.clock) e;
     nodes = code_nodes;
@@ -348,7 +348,7 @@ module _ (t : TableParts) (valid : IsValid t) (s : Setting) (h : IsSettable s) (
     vco_in_same : pll_used s.facts s.clock ≡ true → vco_in_at s.facts u.pllcfgr ≡ vco_in_of s.facts s.clock
     vco_in_same e =
         ap (λ x. over (osc_of s.facts x) (m_of u.pllcfgr)) (r.pll e).psrc
-        ∙ ap (λ m. over (osc_of s.facts (src_code s.clock.psrc)) m) (r.pll e).m
+        ∙ ap (λ m. over (osc_of s.facts (source_number s.clock.psrc)) m) (r.pll e).m
         ∙ ap (λ x. over (output s.facts.hse_hz (whole hsi) x) s.clock.m) (src_back s.clock.psrc)
 
     vco_same : pll_used s.facts s.clock ≡ true → vco_at s.facts u.pllcfgr ≡ vco_of s.facts s.clock

@@ -20,12 +20,12 @@ use Rattle.init_gen.specs.PinWrites.{wanted, AreWhole, gpio_section}
 use Rattle.res_base.specs.Fraction.{Fraction, times, over}
 use Rattle.res_model.specs.Clock.{output}
 use Rattle.res_model.specs.Limits.{AreWithin}
-use Rattle.res_model.specs.ClockValues.{has_over, known_steps, scale_of_step}
+use Rattle.res_model.specs.ClockValues.{has_over, known_steps, scale_of_step, source_of}
 use Rattle.res_model.specs.declared.table.Mode.{Mode}
 use Rattle.res_model.specs.declared.table.TableParts.{TableParts}
 use Rattle.reg_machine.specs.declared.state.Target.{Target}
 use Rattle.reg_machine.specs.Power.{vos_mask, step_from}
-use Rattle.reg_machine.specs.Tree.{m_of, n_of, p_of, src_of}
+use Rattle.reg_machine.specs.Tree.{m_of, n_of, p_of}
 use Rattle.reg_machine.specs.Legal.{IsLegal}
 use Rattle.init_gen.specs.Writes.{vos_ops, hse_ops, pll_ops, over_ops, late_ops, pll_word}
 use Rattle.init_gen.specs.Codes.{IsSmall, vos_word}
@@ -162,12 +162,12 @@ module _ (pf oi by : Bool) (ax ay pw vn : ℕ) (os : OverStays pw false false) (
   p_is : p_of v ≡ 2 * (c.pcode + 1)
   p_is = ap (λ p. 2 * (p + 1)) (pcode_is c f)
 
-  sys_is : sys_at want.facts v c.src ≡ output want.facts.hse_hz (over (times (over (osc_of want.facts c.psrc) c.m) c.n) (2 * (c.pcode + 1))) (src_of c.src)
+  sys_is : sys_at want.facts v c.src ≡ output want.facts.hse_hz (over (times (over (osc_of want.facts c.psrc) c.m) c.n) (2 * (c.pcode + 1))) (source_of c.src)
   sys_is =
-      ap (λ s. output want.facts.hse_hz (over (times (over (osc_of want.facts s) (m_of v)) (n_of v)) (p_of v)) (src_of c.src)) (psrc_is c f)
-      ∙ ap (λ m. output want.facts.hse_hz (over (times (over (osc_of want.facts c.psrc) m) (n_of v)) (p_of v)) (src_of c.src)) (m_is c f)
-      ∙ ap (λ n. output want.facts.hse_hz (over (times (over (osc_of want.facts c.psrc) c.m) n) (p_of v)) (src_of c.src)) (n_is c f)
-      ∙ ap (λ p. output want.facts.hse_hz (over (times (over (osc_of want.facts c.psrc) c.m) c.n) p) (src_of c.src)) p_is
+      ap (λ s. output want.facts.hse_hz (over (times (over (osc_of want.facts s) (m_of v)) (n_of v)) (p_of v)) (source_of c.src)) (psrc_is c f)
+      ∙ ap (λ m. output want.facts.hse_hz (over (times (over (osc_of want.facts c.psrc) m) (n_of v)) (p_of v)) (source_of c.src)) (m_is c f)
+      ∙ ap (λ n. output want.facts.hse_hz (over (times (over (osc_of want.facts c.psrc) c.m) n) (p_of v)) (source_of c.src)) (n_is c f)
+      ∙ ap (λ p. output want.facts.hse_hz (over (times (over (osc_of want.facts c.psrc) c.m) c.n) p) (source_of c.src)) p_is
 
   -- the PLL is on for good
   stays_on : c.pll ≡ true → Stays tb want sys c (cr_pll c.oscillator) v (has_hse c.oscillator) true

@@ -1,7 +1,7 @@
 -- What the fields of RCC, FLASH and PWR take for a choice of clocks (RM0090).
 use Rattle.std.specs.Prelude.{ℕ, ◌-◌, ◌*◌, ◌/◌, ◌^◌, ◌<◌, Bool, if◌then◌else◌, ◌==◌}
 use Rattle.res_model.specs.Clock.{hse_used, pll_used}
-use Rattle.res_model.specs.ClockValues.{has_over, scale_of_step}
+use Rattle.res_model.specs.ClockValues.{has_over, scale_of_step, source_number}
 use Rattle.reg_machine.specs.Power.{vos_mask}
 use Rattle.res_model.specs.declared.clock.ClockChoice.{ClockChoice}
 use Rattle.res_model.specs.declared.clock.Facts.{Facts}
@@ -10,12 +10,6 @@ use Rattle.res_model.specs.declared.clock.Src.TheVariants.{Hsi, Hse, Pll}
 use Rattle.init_gen.specs.declared.setting.Codes.{Codes}
 use Rattle.init_gen.specs.declared.setting.Oscillator.{Oscillator}
 use Rattle.init_gen.specs.declared.setting.Oscillator.TheVariants as oscillator
-
--- as SW and SRC say a source
-abbrev pub src_code : Src → ℕ
-src_code Hsi = 0
-src_code Hse = 1
-src_code Pll = 2
 
 -- 2, 4, 6 and 8 are 0 to 3
 abbrev pub p_code : ℕ → ℕ
@@ -51,8 +45,8 @@ codes_of version f c wait = record {
   over = has_over c.vos;
   oscillator = oscillator_of (hse_used f c) f.bypass;
   pll = pll_used f c;
-  psrc = src_code c.psrc;
-  src = src_code c.src;
+  psrc = source_number c.psrc;
+  src = source_number c.src;
   m = c.m;
   n = c.n;
   pcode = p_code c.p;

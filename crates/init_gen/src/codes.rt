@@ -1,7 +1,8 @@
 //! The codes of the fields.
 ghost use Rattle.std.specs.Prelude.{◌≡◌, ℕ, ◌<◌, ◌≤◌, ◌/◌, ◌-◌};
 ghost use Rattle.reg_machine.specs.Power.{vos_mask};
-ghost use Rattle.init_gen.specs.Codes.{src_code, p_code, hpre_code, ppre_code, oscillator_of, vos_code, vos_word, codes_of};
+ghost use Rattle.init_gen.specs.Codes.{p_code, hpre_code, ppre_code, oscillator_of, vos_code, vos_word, codes_of};
+ghost use Rattle.res_model.specs.ClockValues.{source_number};
 
 use crate::setting::{Codes, Oscillator};
 use clock_tree::{hse_used, pll_used};

@@ -10,10 +10,11 @@ use Rattle.res_model.specs.declared.clock.ClockChoice.{ClockChoice}
 use Rattle.res_model.specs.declared.clock.Src.{Src}
 use Rattle.res_model.specs.declared.clock.Src.TheVariants.{Hsi, Hse, Pll}
 use Rattle.ioc_project.specs.Project.{number_after, pll_source_of, system_source_of}
-use Rattle.ioc_write.specs.Back.{form_of, source_number, value_in}
+use Rattle.ioc_write.specs.Back.{form_of, value_in}
 use Rattle.ioc_write.specs.WriteBack.{source_text, spelled}
 use Rattle.ioc_write.specs.declared.variable.Variable.{Variable}
 use Rattle.ioc_write.specs.declared.variable.Variable.TheVariants as variable
+use Rattle.res_model.specs.ClockValues.{source_number}
 
 number_read : (n : ℕ) → n ≤ 65535 → number_up_to 65535 (decimal n) ≡ Some n
 unfolding number_up_to

@@ -10,14 +10,14 @@ use Rattle.res_base.proofs.ListLemmas.{member_left, member_right}
 use Rattle.res_base.proofs.SumLemmas.{bool_cases}
 use Rattle.res_model.specs.Clock.{IsInRange}
 use Rattle.ioc_text.specs.Lines.{is_named, pin_number}
-use Rattle.problem.specs.ClockValues.{clock_at, clock_value, source_of}
+use Rattle.problem.specs.ClockValues.{clock_at, clock_value}
 use Rattle.problem.specs.declared.parts.ProblemParts.{ProblemParts}
 use Rattle.ioc_lines.specs.Entries.{AreApart, Entry, Reads, entries, entry_if, entry_of, lookup}
 use Rattle.ioc_lines.specs.Lines.{Keyed, TextLine, keyed}
 use Rattle.ioc_lines.specs.Standing.{Means}
 use Rattle.ioc_lines.proofs.LineLemmas.{reads_named, short_line, value_read}
 use Rattle.ioc_lines.proofs.TextCuts.{says_on}
-use Rattle.ioc_write.specs.Back.{form_of, source_number, value_in}
+use Rattle.ioc_write.specs.Back.{form_of, value_in}
 use Rattle.ioc_write.specs.Reading.{changed, entry_said}
 use Rattle.ioc_write.specs.WriteBack.{clock_key, has_variable, is_away, number_of, spelled, variable_of, variable_on, variables, variables_on}
 use Rattle.ioc_write.specs.declared.change.Change.TheVariants as change
@@ -32,6 +32,7 @@ use Rattle.ioc_write.proofs.LineBack.{spelled_value}
 use Rattle.ioc_write.proofs.LookBack.{DoesNotEndInCr, lookup_added, lookup_none, lookup_to}
 use Rattle.ioc_write.proofs.NamedLemmas.{key_of_variable, named_clock}
 use Rattle.ioc_write.proofs.TextBack.{NearAll}
+use Rattle.res_model.specs.ClockValues.{source_number, source_of}
 
 -- ---- keys of clock variables
 

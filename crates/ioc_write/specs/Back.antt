@@ -6,6 +6,7 @@ use Rattle.res_model.specs.declared.clock.Src.{Src}
 use Rattle.res_model.specs.declared.clock.Src.TheVariants.{Hsi, Hse, Pll}
 use Rattle.ioc_write.specs.declared.variable.Variable.{Variable}
 use Rattle.ioc_write.specs.declared.variable.Variable.TheVariants as variable
+use Rattle.res_model.specs.ClockValues.{source_number}
 
 -- the form in which the value of a clock variable is read
 abbrev pub form_of : Variable → List ℕ → Option ℕ
@@ -18,12 +19,6 @@ form_of variable.N = number_after []
 form_of variable.Q = number_after []
 form_of variable.Apb1 = number_after (codes "RCC_HCLK_DIV")
 form_of variable.Apb2 = number_after (codes "RCC_HCLK_DIV")
-
--- HSI 0, HSE 1 and PLL 2
-abbrev pub source_number : Src → ℕ
-source_number Hsi = 0
-source_number Hse = 1
-source_number Pll = 2
 
 -- the value of a clock variable in a choice, as a home has it
 abbrev pub value_in : ClockChoice → Variable → ℕ

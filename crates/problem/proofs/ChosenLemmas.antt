@@ -14,10 +14,11 @@ use Rattle.clock_limits.specs.Ranges.{values_at}
 use Rattle.res_model.specs.Valid.{IsValid}
 use Rattle.res_model.specs.declared.table.PinUse.{PinUse}
 use Rattle.problem.specs.declared.parts.ProblemParts.{ProblemParts}
-use Rattle.problem.specs.ClockValues.{clock_at, clock_domains, clock_value, source_of}
+use Rattle.problem.specs.ClockValues.{clock_at, clock_domains, clock_value}
 use Rattle.problem.specs.Meets.{places_of, use_of}
 use Rattle.problem.specs.Problem.{AreFrom, HaveValues, IsProblem}
 use Rattle.problem.proofs.ValueLemmas.{domains_in, spans, within_at}
+use Rattle.res_model.specs.ClockValues.{source_of}
 
 -- ---- positions
 

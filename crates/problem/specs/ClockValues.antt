@@ -9,6 +9,7 @@ use Rattle.res_model.specs.declared.clock.Src.{Src}
 use Rattle.res_model.specs.declared.clock.Src.TheVariants.{Hsi, Hse, Pll}
 use Rattle.res_model.specs.declared.project.Home.{Home}
 use Rattle.res_model.specs.declared.table.TableParts.{TableParts}
+use Rattle.res_model.specs.ClockValues.{source_of}
 
 -- so many numbers in a row from a first one on
 abbrev pub numbers_from : ℕ → ℕ → List ℕ
@@ -53,9 +54,6 @@ abbrev pub clock_variables : Bool → List (List ℕ) → List Home → List Var
 clock_variables fixed [] homes = []
 clock_variables fixed (d ∷ ds) [] = []
 clock_variables fixed (d ∷ ds) (h ∷ hs) = variable_with fixed h.value d ∷ clock_variables fixed ds hs
-
-abbrev pub source_of : ℕ → Src
-source_of n = if n == 0 then Hsi else (if n == 1 then Hse else Pll)
 
 -- the value of the clock variable of this number at its position
 abbrev pub clock_value : List (List ℕ) → List ℕ → ℕ → ℕ

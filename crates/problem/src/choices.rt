@@ -4,7 +4,7 @@ ghost use Rattle.res_model.specs.Clock.{IsInRange};
 ghost use Rattle.res_model.specs.Limits.{broken_limit};
 ghost use Rattle.res_model.specs.Placement.{fits, uses_at};
 ghost use Rattle.clock_limits.specs.Ranges.{values_at};
-ghost use Rattle.problem.specs.ClockValues.{clock_at, clock_value, source_of};
+ghost use Rattle.problem.specs.ClockValues.{clock_at, clock_value};
 ghost use Rattle.problem.specs.Meets.{meets, places_of, use_of};
 ghost use Rattle.problem.specs.Problem.{IsProblem};
 
@@ -84,6 +84,7 @@ fn use_at(uses: &[Items<PinUse>], signal: usize, position: u16) -> PinUse
 
 impl Problem {
     ghost use Rattle.choice_rank.specs.Choices.{IsChoice};
+    ghost use Rattle.res_model.specs.ClockValues.{source_of};
 
     /// The clocks that a choice makes.
     pub fn clock_of(&self, at: &[u16]) -> ClockChoice

@@ -7,8 +7,9 @@ use Rattle.res_model.specs.Clock.{IsBetween, IsInRange, IsOscillator, is_pll, no
 use Rattle.res_model.specs.declared.clock.ClockChoice.{ClockChoice}
 use Rattle.res_model.specs.declared.clock.Facts.{Facts}
 use Rattle.reg_machine.specs.Words.{IsStored}
-use Rattle.reg_machine.specs.Tree.{m_of, n_of, q_of, hpre_value, ppre_value, src_of, choice_of, nodes_where}
+use Rattle.reg_machine.specs.Tree.{m_of, n_of, q_of, hpre_value, ppre_value, choice_of, nodes_where}
 use Rattle.reg_machine.specs.declared.state.State.{State}
+use Rattle.res_model.specs.ClockValues.{source_of}
 
 pub and_left : (a b : Bool) → (a && b) ≡ true → a ≡ true
 and_left true b h = refl
@@ -33,7 +34,7 @@ hpre_between code l = between 1 (hpre_value code) 512 (at_below 16 code (λ x. l
 ppre_between : (code : ℕ) → code < 8 → IsBetween 1 16 (ppre_value code)
 ppre_between code l = between 1 (ppre_value code) 16 (at_below 8 code (λ x. leb 1 (ppre_value x) && leb (ppre_value x) 16) refl l)
 
-oscillator : (x : ℕ) → x < 2 → IsOscillator (src_of x)
+oscillator : (x : ℕ) → x < 2 → IsOscillator (source_of x)
 oscillator zero l = tt
 oscillator (suc zero) l = tt
 oscillator (suc (suc x)) l = absurd (omega arith)

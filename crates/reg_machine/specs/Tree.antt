@@ -10,6 +10,7 @@ use Rattle.res_model.specs.declared.clock.Src.TheVariants.{Hsi, Hse, Pll}
 use Rattle.reg_machine.specs.Power.{step_of_power}
 use Rattle.reg_machine.specs.Words.{pll_source}
 use Rattle.reg_machine.specs.declared.state.State.{State}
+use Rattle.res_model.specs.ClockValues.{source_of}
 
 -- ---- the fields of RCC_PLLCFGR and RCC_CFGR
 
@@ -43,16 +44,12 @@ ppre1_of word = ppre_value (field_of 10 3 word)
 abbrev pub ppre2_of : ℕ → ℕ
 ppre2_of word = ppre_value (field_of 13 3 word)
 
--- as SW, SWS and SRC say it
-abbrev pub src_of : ℕ → Src
-src_of code = if code == 0 then Hsi else (if code == 1 then Hse else Pll)
-
 -- ---- the choice that the fields say, where SYSCLK comes from a source
 
 abbrev pub choice_of : State → ℕ → ClockChoice
 choice_of s source = record {
-  src = src_of source;
-  psrc = src_of (pll_source s.pllcfgr);
+  src = source_of source;
+  psrc = source_of (pll_source s.pllcfgr);
   hpre = hpre_of s.cfgr;
   p = p_of s.pllcfgr;
   m = m_of s.pllcfgr;

@@ -3,9 +3,10 @@ ghost use Rattle.std.specs.Prelude.{◌≡◌, ◌<◌, ◌^◌, if◌then◌els
 ghost use Rattle.reg_map.specs.Fields.{bit_of};
 ghost use Rattle.res_model.specs.Clock.{IsInRange};
 ghost use Rattle.reg_machine.specs.Words.{IsStored};
-ghost use Rattle.reg_machine.specs.Tree.{hpre_value, ppre_value, src_of, choice_of, nodes_where, tree_of};
+ghost use Rattle.reg_machine.specs.Tree.{hpre_value, ppre_value, choice_of, nodes_where, tree_of};
 ghost use Rattle.reg_machine.specs.Power.{step_of_power};
 ghost use Rattle.reg_machine.specs.Legal.{is_choice_legal, are_within_some, is_vco_legal};
+ghost use Rattle.res_model.specs.ClockValues.{source_of};
 
 use crate::power::power_of;
 use crate::rules::{PLLON, bit};

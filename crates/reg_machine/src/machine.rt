@@ -46,7 +46,8 @@ impl Machine {
     ghost use Rattle.reg_machine.specs.Legal.{IsLegal, is_legal};
     ghost use Rattle.reg_machine.specs.Pins.{mode_at};
     ghost use Rattle.reg_machine.specs.Power.{power_of};
-    ghost use Rattle.reg_machine.specs.Tree.{src_of, tree_of};
+    ghost use Rattle.reg_machine.specs.Tree.{tree_of};
+    ghost use Rattle.res_model.specs.ClockValues.{source_of};
 
     /// The machine after reset.
     pub fn reset(alloc: Global, t: &Tables, want: &Target) -> Result<Machine, OutOfMemory>

@@ -8,7 +8,6 @@ use Rattle.reg_machine.specs.Legal.{is_legal}
 use Rattle.reg_machine.specs.Reset.{View, fresh}
 use Rattle.reg_machine.specs.Run.{Config, Running, Done, TimedOut, Forbidden, after, config_at, next, silent}
 use Rattle.reg_machine.specs.Step.{step_of}
-use Rattle.reg_machine.specs.Tree.{src_of}
 use Rattle.reg_machine.specs.Words.{IsOp, word_of}
 use Rattle.res_base.specs.Lists.{Each}
 use Rattle.res_model.specs.declared.clock.Src.{Src}
@@ -26,6 +25,7 @@ use Rattle.reg_trace.specs.declared.lines.Seen.{Seen}
 use Rattle.reg_trace.specs.declared.turn.Turn.{Turn}
 use Rattle.reg_trace.specs.declared.fault.TraceFault.{TraceFault}
 use Rattle.reg_trace.specs.declared.fault.TraceFault.TheVariants as fault
+use Rattle.res_model.specs.ClockValues.{source_of}
 
 -- ---- a run that has ended
 
@@ -96,8 +96,8 @@ text_none = refl
 pub seen_is : (number : ℕ) (fine : Bool) (op : Op) (s : State) (seen : Seen) (x : Stepped) → IsSeen op s seen → text_of (step_lines number fine op s x) ≡ seen_text number fine seen x
 seen_is number fine op s seen stepped.Went h =
     text_one _
-    ∙ ap (λ (n : ℕ). line_text (record { said = OpWent number n (word_of s (register_of op)) (src_of s.source) s.latency; legal = fine })) (sym h.at)
-    ∙ ap (λ (n : ℕ). line_text (record { said = OpWent number seen.at n (src_of s.source) s.latency; legal = fine })) (sym h.word)
+    ∙ ap (λ (n : ℕ). line_text (record { said = OpWent number n (word_of s (register_of op)) (source_of s.source) s.latency; legal = fine })) (sym h.at)
+    ∙ ap (λ (n : ℕ). line_text (record { said = OpWent number seen.at n (source_of s.source) s.latency; legal = fine })) (sym h.word)
     ∙ ap (λ (c : Src). line_text (record { said = OpWent number seen.at seen.word c s.latency; legal = fine })) (sym h.source)
     ∙ ap (λ (n : ℕ). line_text (record { said = OpWent number seen.at seen.word seen.source n; legal = fine })) (sym h.latency)
 seen_is number fine op s seen stepped.Waiting h = text_none

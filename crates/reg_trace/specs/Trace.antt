@@ -7,7 +7,6 @@ use Rattle.reg_machine.specs.Legal.{is_legal}
 use Rattle.reg_machine.specs.Reset.{reset_of}
 use Rattle.reg_machine.specs.Run.{Config, Running, Done, TimedOut, Forbidden, config_at, next, silent}
 use Rattle.reg_machine.specs.Step.{flags, step_of}
-use Rattle.reg_machine.specs.Tree.{src_of}
 use Rattle.reg_machine.specs.Words.{word_of}
 use Rattle.reg_machine.specs.declared.op.Answer.{Answer}
 use Rattle.reg_machine.specs.declared.op.Op.{Op}
@@ -20,6 +19,7 @@ use Rattle.reg_trace.specs.Lines.{OpWent, RunDone, RunForbidden, RunTimedOut, Tr
 use Rattle.reg_trace.specs.Reading.{most}
 use Rattle.reg_trace.specs.declared.fault.TraceFault.{TraceFault}
 use Rattle.reg_trace.specs.declared.fault.TraceFault.TheVariants as fault
+use Rattle.res_model.specs.ClockValues.{source_of}
 
 -- ---- the steps of a run
 
@@ -65,7 +65,7 @@ register_of (op.Await r mask want polls name) = r
 
 -- what is said of an access that was done, and of the state behind it
 abbrev pub went_line : ℕ → Bool → Op → State → TraceLine
-went_line number fine op s = record { said = OpWent number (address (register_of op)) (word_of s (register_of op)) (src_of s.source) s.latency; legal = fine }
+went_line number fine op s = record { said = OpWent number (address (register_of op)) (word_of s (register_of op)) (source_of s.source) s.latency; legal = fine }
 
 -- the line of a step, if it has one
 abbrev pub step_lines : ℕ → Bool → Op → State → Stepped → List TraceLine

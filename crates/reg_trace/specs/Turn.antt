@@ -4,7 +4,6 @@ use Rattle.reg_map.specs.Registers.{address}
 use Rattle.reg_machine.specs.Legal.{is_legal}
 use Rattle.reg_machine.specs.Reset.{View}
 use Rattle.reg_machine.specs.Run.{Running, config_at}
-use Rattle.reg_machine.specs.Tree.{src_of}
 use Rattle.reg_machine.specs.Words.{word_of}
 use Rattle.reg_machine.specs.declared.op.Answer.{Answer}
 use Rattle.reg_machine.specs.declared.op.Op.{Op}
@@ -20,6 +19,7 @@ use Rattle.reg_trace.specs.declared.fault.TraceFault.{TraceFault}
 use Rattle.reg_trace.specs.declared.fault.TraceFault.TheVariants as fault
 use Rattle.reg_trace.specs.declared.lines.Seen.{Seen}
 use Rattle.reg_trace.specs.declared.turn.Turn.{Turn}
+use Rattle.res_model.specs.ClockValues.{source_of}
 
 -- a machine took a step, where the states since the last line so far are fine or not
 pub record IsTurn (before : View) (op : Op) (a : Answer) (fine : Bool) (after : View) (turn : Turn) : Type 0 where
@@ -36,7 +36,7 @@ forbidden_line rule fine = record { said = RunForbidden rule; legal = fine }
 pub record IsSeen (op : Op) (s : State) (seen : Seen) : Type 0 where
   pub at : seen.at ≡ address (register_of op)
   pub word : seen.word ≡ word_of s (register_of op)
-  pub source : seen.source ≡ src_of s.source
+  pub source : seen.source ≡ source_of s.source
   pub latency : seen.latency ≡ s.latency
 
 abbrev pub seen_line : ℕ → Bool → Seen → TraceLine

@@ -7,12 +7,12 @@ use Rattle.std.proofs.lemmas.Grind.{common_steps}
 use Rattle.res_base.specs.Lists.{Each, Member}
 use Rattle.res_model.specs.Clock.{IsOscillator}
 use Rattle.ioc_project.specs.Project.{all_within, domain_tests, is_among}
-use Rattle.res_model.specs.ClockValues.{ahb_dividers, apb_dividers, pll_dividers, known_steps}
+use Rattle.res_model.specs.ClockValues.{ahb_dividers, apb_dividers, pll_dividers, known_steps, source_of}
 use Rattle.res_model.specs.Valid.{AreDomains}
 use Rattle.ioc_project.specs.declared.fault.ProjectFault.TheVariants.{OutOfTable}
 use Rattle.res_model.specs.declared.project.Home.{Home}
 use Rattle.res_model.specs.declared.table.Domains.{Domains}
-use Rattle.resolver.specs.HomeTree.{AreHomes, home_at, home_choice, source_of}
+use Rattle.resolver.specs.HomeTree.{AreHomes, home_at, home_choice}
 
 -- each home passes the test at its place
 within_at : (tests : List (ℕ → Bool)) (homes : List Home) (k : ℕ) → all_within tests homes ≡ Ok tt → k < length tests → k < length homes → (get_or tests k (λ n. true)) (get_or homes k record { value = 0; line = 0 }).value ≡ true

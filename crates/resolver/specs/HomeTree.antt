@@ -14,10 +14,7 @@ use Rattle.res_model.specs.declared.opts.Opts.{Opts}
 use Rattle.res_model.specs.declared.project.Home.{Home}
 use Rattle.res_model.specs.declared.project.Project.{Project}
 use Rattle.res_model.specs.declared.table.TableParts.{TableParts}
-
--- a source is told as HSI 0, HSE 1 and PLL 2
-abbrev pub source_of : ℕ → Src
-source_of code = if code == 0 then Hsi else (if code == 1 then Hse else Pll)
+use Rattle.res_model.specs.ClockValues.{source_of}
 
 -- the home of the clock variable at this place
 abbrev pub home_at : List Home → ℕ → ℕ

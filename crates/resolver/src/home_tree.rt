@@ -5,7 +5,8 @@ ghost use Rattle.res_model.specs.declared.opts.Free.TheVariants.{Pins};
 ghost use Rattle.ioc_project.specs.Read.{IsRead};
 ghost use Rattle.ioc_project.specs.Project.{all_within, domain_tests};
 ghost use Rattle.res_model.specs.Power.{wait_of};
-ghost use Rattle.resolver.specs.HomeTree.{AreHomes, choice_text, home_at, home_choice, home_nodes, home_text, limits_line, source_of};
+ghost use Rattle.resolver.specs.HomeTree.{AreHomes, choice_text, home_at, home_choice, home_nodes, home_text, limits_line};
+ghost use Rattle.res_model.specs.ClockValues.{source_of};
 
 use clock_limits::broken;
 use clock_tree::{nodes, tree_text};
