@@ -14,7 +14,7 @@ ghost use Rattle.box_rules.specs.Judged.{HasResources};
 
 use pin_match::Matcher;
 use res_base::{Items, OutOfMemory, VarSet};
-use res_model::{Mode, PinUse, TableParts};
+use res_model::{Mode, PinUse, TableParts, pin_number};
 use search_api::Class;
 use std::alloc::Global;
 
@@ -61,21 +61,12 @@ fn members_of(alloc: Global, class: Class, uses: &[Items<PinUse>]) -> Result<Vec
     Ok(members)
 }
 
-fn number_of(t: &TableParts, pin: u8) -> u8
-    ensures { result ≡ number_of t.now pin }
-{
-    match t.pins.as_slice().get(pin as usize) {
-        Some(pin) => pin.number,
-        None => 0,
-    }
-}
-
 fn resource_of(t: &TableParts, class: Class, u: PinUse) -> u8
     ensures { result ≡ resource_of t.now class u }
 {
     match class {
         Class::Pins => u.pin,
-        Class::Exti => number_of(t, u.pin),
+        Class::Exti => pin_number(t, u.pin),
     }
 }
 

@@ -1,5 +1,4 @@
 pub mod FieldLemmas
-pub mod LeastLemmas
 pub mod OrderLemmas
 pub mod TimingLemmas
 pub mod WalkLemmas

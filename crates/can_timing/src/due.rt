@@ -8,12 +8,12 @@ ghost use Rattle.can_timing.specs.Texts.{IsDue, can_text};
 ghost use Rattle.can_timing.specs.Walk.{IsFirst, IsRefuted, IsWalked, refutation_start};
 
 use crate::judge::CanJudge;
-use crate::least::least_of;
 use crate::lines::{point_line, put_btr_line, rank_line, rate_line, segments_line};
 use crate::request::Request;
 use crate::timing::{Timing, timing_of};
 use crate::walk::{all_timings, first_in};
 use answers::{Answer, Status};
+use choice_rank::least_of;
 use res_base::{Items, OutOfMemory, Ratio, put_line};
 use search_api::Judge;
 use std::alloc::Global;

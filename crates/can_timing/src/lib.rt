@@ -5,7 +5,6 @@ mod corners;
 mod due;
 mod judge;
 mod laws;
-mod least;
 mod lines;
 mod register;
 mod request;

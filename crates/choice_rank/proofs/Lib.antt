@@ -1,4 +1,5 @@
 pub mod ChoiceLemmas
 pub mod DigitLemmas
+pub mod LeastLemmas
 pub mod WeightLemmas
 pub mod WidthLemmas

@@ -5,5 +5,5 @@ mod text;
 mod tree;
 
 pub use res_model::{ClockChoice, Facts, Nodes, Src};
-pub use text::tree_text;
+pub use text::{source_word, tree_text};
 pub use tree::{HSI, hse_used, nodes, pll_used};

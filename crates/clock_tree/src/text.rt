@@ -8,7 +8,8 @@ use res_base::{OutOfMemory, Ratio};
 use res_model::{ClockChoice, Facts, Nodes, Src, has_over, scale_of_step};
 use std::alloc::{AllocError, Global};
 
-fn source_word(source: Src) -> &'static str
+/// The name of a source, as texts have it.
+pub fn source_word(source: Src) -> &'static str
     ensures { result.now ≡ source_word source }
 {
     match source {

@@ -1,4 +1,3 @@
 pub mod BoxLemmas
 pub mod LawLemmas
-pub mod LeastLemmas
 pub mod WantLemmas

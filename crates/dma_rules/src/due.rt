@@ -7,10 +7,10 @@ ghost use Rattle.dma_rules.specs.Streams.{meets, shape_of};
 ghost use Rattle.dma_rules.specs.Texts.{IsRefutation, OfWant};
 
 use crate::judge::DmaJudge;
-use crate::least::least_of;
 use crate::lines::dma_text;
 use crate::want::DmaWant;
 use answers::{Answer, Status};
+use choice_rank::least_of;
 use refutation::{canonical, write_proof};
 use res_base::{Items, OutOfMemory};
 use res_io::Gate;

@@ -5,7 +5,6 @@ mod checker;
 mod due;
 mod judge;
 mod laws;
-mod least;
 mod lines;
 mod streams;
 mod want;

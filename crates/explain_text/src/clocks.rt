@@ -1,41 +1,11 @@
 //! What a choice changes of the clock variables.
 ghost use Rattle.std.specs.Prelude.{◌≡◌, ◌<◌, ◌++◌, IfOk, OnOk, string_bytes};
-ghost use Rattle.clock_tree.specs.ClockText.{source_word};
 ghost use Rattle.explain_text.specs.Changes.{bus_changes, change_line, home_value, number_change, over_word, pll_changes, source_change, source_changes, step_change, step_text};
-ghost use Rattle.res_model.specs.ClockValues.{has_over, scale_of_step, source_number, source_of};
+ghost use Rattle.res_model.specs.ClockValues.{has_over, scale_of_step};
 
+use clock_tree::source_word;
 use res_model::{ClockChoice, Home, Src};
 use std::alloc::{AllocError, Global};
-
-fn source_word(source: Src) -> &'static str
-    ensures { result.now ≡ source_word source }
-{
-    match source {
-        Src::Hsi => "HSI",
-        Src::Hse => "HSE",
-        Src::Pll => "PLL",
-    }
-}
-
-fn code_of(source: Src) -> u64
-    ensures { result ≡ code_of source }
-{
-    match source {
-        Src::Hsi => 0,
-        Src::Hse => 1,
-        Src::Pll => 2,
-    }
-}
-
-fn source_of(code: u64) -> Src
-    ensures { result ≡ source_of code }
-{
-    match code {
-        0 => Src::Hsi,
-        1 => Src::Hse,
-        _ => Src::Pll,
-    }
-}
 
 #[tactic(auto, unfolding(crate::specs::Changes::change_line))]
 fn change_line(alloc: Global, word: &str, home: &str, value: &str) -> Result<String, AllocError>
@@ -54,15 +24,10 @@ fn change_line(alloc: Global, word: &str, home: &str, value: &str) -> Result<Str
 fn source_change(alloc: Global, word: &str, home: u64, source: Src) -> Result<String, AllocError>
     ensures { IfOk result (λ x. string_bytes x ≡ source_change word.now home source) }
 {
-    if home == code_of(source) {
+    if home == u64::from(source.number()) {
         return Ok(String::new(alloc));
     }
-    change_line(
-        alloc,
-        word,
-        source_word(source_of(home)),
-        source_word(source),
-    )
+    change_line(alloc, word, source_word(Src::of(home)), source_word(source))
 }
 
 #[tactic(auto, unfolding(crate::specs::Changes::number_change))]

@@ -11,7 +11,7 @@ ghost use Rattle.explain_text.specs.Reasons.{hall_text, head_line, is_wanted_by,
 use crate::hertz::put_number;
 use problem::ProblemParts;
 use res_base::{OutOfMemory, VarSet};
-use res_model::{PinUse, Signal, TableParts};
+use res_model::{PinUse, Signal, TableParts, pin_number};
 use search_api::Class;
 use std::alloc::{AllocError, Global};
 
@@ -53,22 +53,13 @@ fn values_of(p: &ProblemParts, v: u8) -> &[PinUse]
     }
 }
 
-fn number_of(t: &TableParts, pin: u8) -> u8
-    ensures { result ≡ number_of t.now pin }
-{
-    match t.pins.as_slice().get(pin as usize) {
-        Some(pin) => pin.number,
-        None => 0,
-    }
-}
-
 /// What a value competes for.
 fn resource_of(t: &TableParts, class: Class, at: PinUse) -> u8
     ensures { result ≡ resource_of t.now class at }
 {
     match class {
         Class::Pins => at.pin,
-        Class::Exti => number_of(t, at.pin),
+        Class::Exti => pin_number(t, at.pin),
     }
 }
 

@@ -23,8 +23,8 @@ pub fn codes_of(version: u8, f: &Facts, c: &ClockChoice, wait: u8) -> Codes
         over: has_over(step),
         oscillator: oscillator_of(hse_used(f, c), f.bypass),
         pll: pll_used(f, c),
-        psrc: src_code(c.psrc),
-        src: src_code(c.src),
+        psrc: source_number(c.psrc),
+        src: source_number(c.src),
         m: u32::from(c.m),
         n: u32::from(c.n),
         pcode: p_code(c.p),
@@ -63,14 +63,10 @@ fn oscillator_of(used: bool, bypass: bool) -> Oscillator
     }
 }
 
-fn src_code(source: Src) -> u32
-    ensures { result ≡ src_code source }
+fn source_number(source: Src) -> u32
+    ensures { result ≡ source_number source }
 {
-    match source {
-        Src::Hsi => 0,
-        Src::Hse => 1,
-        Src::Pll => 2,
-    }
+    u32::from(source.number())
 }
 
 fn p_code(p: u8) -> u32

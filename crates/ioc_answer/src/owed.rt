@@ -12,15 +12,15 @@ ghost use Rattle.solver.specs.Owed.{OfProblem};
 ghost use Rattle.answers.specs.Said.{Says};
 ghost use Rattle.answers.specs.declared.answer.Status.TheVariants as status;
 
-use crate::least::{least_of, too_wide};
 use answers::{Answer, Status, counts, says};
 use box_judge::PinClockJudge;
-use choice_rank::ShapeFault;
+use choice_rank::{ShapeFault, least_of};
 use ioc_write::{BackFault, write_back};
 use problem::{Part, Problem, build};
 use res_base::{Items, OutOfMemory};
 use res_io::Gate;
 use res_model::{Opts, Project, Tables};
+use solver::too_wide;
 use std::alloc::Global;
 use std::sync::Wait;
 use std::thread::Threads;

@@ -1,34 +1,23 @@
 //! The legal choice of least rank, or why there is none.
-ghost use Rattle.std.specs.Prelude.{◌≡◌, ◌%◌, List, Bool, ℕ, None, Some, IfOk};
-ghost use Rattle.choice_rank.specs.Choices.{IsChoice, choices_of, index_of};
-ghost use Rattle.choice_rank.specs.Least.{IsAnswer, IsLeast, NoneLegal};
+ghost use Rattle.std.specs.Prelude.{◌≡◌, None, Some, IfOk};
+ghost use Rattle.choice_rank.specs.Least.{IsAnswer, NoneLegal};
 ghost use Rattle.search_api.specs.Accounts.{Accounted};
 ghost use Rattle.least_search.specs.Found.{IsFound};
 
 use crate::outcomes::Found;
-use choice_rank::Shape;
+use choice_rank::least_of;
 use refutation::canonical;
 use res_base::OutOfMemory;
 use search_api::{Judge, Outcome};
 use serial_search::search;
 use std::alloc::Global;
 
-/// The choice whose index is that of a rank.
-fn choice_of(alloc: Global, shape: &Shape, rank: u64) -> Result<Vec<u16>, OutOfMemory>
-    ensures choice { IfOk result (λ at. IsChoice shape.now at.items) }
-    ensures index { IfOk result (λ at. index_of shape.now at.items ≡ rank % choices_of shape.now) }
-{
-    let mut at = vec![in alloc; 0u16; shape.vars().len()]?;
-    let _ = shape.unrank_into(rank, at.as_mut_slice());
-    Ok(at)
-}
-
 /// The choice of a rank that is the least.
-fn least_of<J: Judge>(alloc: Global, j: &J, rank: u64) -> Result<Found, OutOfMemory>
+fn choice_found<J: Judge>(alloc: Global, j: &J, rank: u64) -> Result<Found, OutOfMemory>
     requires { IsAnswer (J.meaning j.now).shape (J.meaning j.now).legal (Some rank) }
     ensures { IfOk result (IsFound (J.meaning j.now)) }
 {
-    let at = choice_of(alloc, j.shape(), rank)?;
+    let at = least_of(alloc, j.shape(), rank)?;
     Ok(Found::Choice { at })
 }
 
@@ -49,7 +38,7 @@ pub fn found<J: Judge>(alloc: Global, j: &J) -> Result<Found, OutOfMemory>
 {
     let outcome = search(alloc, j)?;
     match outcome.best {
-        Some(rank) => least_of(alloc, j, rank),
+        Some(rank) => choice_found(alloc, j, rank),
         None => nothing(alloc, j, &outcome),
     }
 }

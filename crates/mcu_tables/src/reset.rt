@@ -4,7 +4,7 @@ ghost use Rattle.std.specs.List.{list_any};
 ghost use Rattle.res_model.specs.ClockValues.{hsi};
 ghost use Rattle.mcu_tables.specs.Table.{reset_fault};
 
-use res_model::{FlashRange, Scale, TableParts, speeds_at};
+use res_model::{FlashRange, Limit, Scale, TableParts, speeds_at};
 
 /// The HSI in hertz (RM0090, RCC), which is the system clock after reset.
 const HSI: u64 = 16000000;
@@ -47,15 +47,15 @@ pub fn reset_fault(parts: &TableParts) -> Option<u8>
     let plain = speeds_at(parts, 1);
     let over = speeds_at(parts, 4);
     if is_low(plain.sysclk, over.sysclk) {
-        Some(6)
+        Some(Limit::Sysclk.number())
     } else if has_low_scale(parts.scales.as_slice()) {
-        Some(7)
+        Some(Limit::Hclk.number())
     } else if is_low(plain.pclk1, over.pclk1) {
-        Some(8)
+        Some(Limit::Pclk1.number())
     } else if is_low(plain.pclk2, over.pclk2) {
-        Some(9)
+        Some(Limit::Pclk2.number())
     } else if has_low_row(parts.flash.as_slice()) {
-        Some(13)
+        Some(Limit::FlashRow.number())
     } else {
         None
     }

@@ -6,16 +6,7 @@ ghost use Rattle.res_model.specs.declared.table.PinUse.{PinUse};
 ghost use Rattle.res_model.specs.Placement.{number_of, is_exti, shares_pin, shares_line, clashes, fits, Fits};
 ghost use Rattle.pin_rules.specs.Clash.{IsFirstClash};
 
-use res_model::{Mode, PinUse, TableParts, Tables};
-
-fn number_of(t: &TableParts, pin: u8) -> u8
-    ensures { result ≡ number_of t.now pin }
-{
-    match t.pins.as_slice().get(pin as usize) {
-        Some(pin) => pin.number,
-        None => 0,
-    }
-}
+use res_model::{Mode, PinUse, TableParts, Tables, pin_number};
 
 fn is_exti(mode: Mode) -> bool
     ensures { result ≡ is_exti mode }
@@ -26,7 +17,7 @@ fn is_exti(mode: Mode) -> bool
 fn shares_line(t: &TableParts, u: PinUse, w: PinUse) -> bool
     ensures { result ≡ shares_line t.now u w }
 {
-    is_exti(u.mode) && is_exti(w.mode) && number_of(t, u.pin) == number_of(t, w.pin)
+    is_exti(u.mode) && is_exti(w.mode) && pin_number(t, u.pin) == pin_number(t, w.pin)
 }
 
 fn clashes(t: &TableParts, u: PinUse, w: PinUse) -> bool

@@ -2,10 +2,12 @@
 ghost use Rattle.std.specs.Prelude.{◌≡◌, ℕ, ◌≤◌, ◌&&◌, find, length, nat_lt, slice_index, IfSome, IfNone, option_copied};
 ghost use Rattle.res_base.specs.Fraction.{at_most, whole};
 ghost use Rattle.std.specs.List.{list_any, position_from};
+ghost use Rattle.res_model.specs.Clock.{AreFacts, IsInRange, hclk_of};
 ghost use Rattle.res_model.specs.Power.{has_supply, range_at, rows_of_range, flash_rows, range_prefetches, is_covered_by, is_covered, wait_of, RowCovers};
 
+use clock_tree::nodes;
 use res_base::Ratio;
-use res_model::{FlashRange, TableParts, Tables};
+use res_model::{ClockChoice, Facts, FlashRange, TableParts, Tables};
 
 fn has_supply(vdd: u32, range: &FlashRange) -> bool
     ensures { result ≡ has_supply vdd range.now }
@@ -70,6 +72,17 @@ pub fn least_wait(t: &Tables, vdd: u32, hclk: &Ratio) -> Option<u8>
 {
     t.keeps_rules();
     first_row(flash_rows(t.parts(), vdd), hclk)
+}
+
+/// The least wait states under which the flash keeps up with the HCLK of a choice, at the supply voltage of the facts.
+#[tactic(auto, unfolding(res_model::specs::Clock::nodes_of))]
+pub fn wait_at(t: &Tables, f: &Facts, c: &ClockChoice) -> Option<u8>
+    requires facts { AreFacts f.now }
+    requires choice { IsInRange c.now }
+    ensures { result ≡ wait_of t.now f.now.vdd (hclk_of f.now c.now) }
+{
+    let hclk = nodes(f, c).hclk;
+    least_wait(t, f.vdd, &hclk)
 }
 
 /// Whether some row covers HCLK at this supply voltage in millivolts.

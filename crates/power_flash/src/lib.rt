@@ -4,5 +4,5 @@
 mod flash;
 mod scales;
 
-pub use flash::{is_covered, least_wait, prefetch, row_covers};
+pub use flash::{is_covered, least_wait, prefetch, row_covers, wait_at};
 pub use scales::{is_within_scale, scale_max};

@@ -5,6 +5,7 @@ ghost use Rattle.res_model.specs.Limits.{broken_limit};
 ghost use Rattle.res_model.specs.Placement.{fits, uses_at};
 ghost use Rattle.clock_limits.specs.Ranges.{values_at};
 ghost use Rattle.problem.specs.ClockValues.{clock_at, clock_value};
+ghost use Rattle.res_model.specs.ClockValues.{source_of};
 ghost use Rattle.problem.specs.Meets.{meets, places_of, use_of};
 ghost use Rattle.problem.specs.Problem.{IsProblem};
 
@@ -20,11 +21,7 @@ const SIGNALS: usize = 160;
 fn source_of(value: u16) -> Src
     ensures { result ≡ source_of value }
 {
-    match value {
-        0 => Src::Hsi,
-        1 => Src::Hse,
-        _ => Src::Pll,
-    }
+    Src::of(u64::from(value))
 }
 
 /// The value of the clock variable of this number at its position.
@@ -84,7 +81,6 @@ fn use_at(uses: &[Items<PinUse>], signal: usize, position: u16) -> PinUse
 
 impl Problem {
     ghost use Rattle.choice_rank.specs.Choices.{IsChoice};
-    ghost use Rattle.res_model.specs.ClockValues.{source_of};
 
     /// The clocks that a choice makes.
     pub fn clock_of(&self, at: &[u16]) -> ClockChoice

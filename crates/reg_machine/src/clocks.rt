@@ -116,8 +116,8 @@ fn fields_of(s: &State, source: u32) -> ClockChoice
     ensures { result ≡ choice_of s.now source }
 {
     ClockChoice {
-        src: src_of(source),
-        psrc: src_of(field_get(s.pllcfgr, PLLSRC)),
+        src: source_of(source),
+        psrc: source_of(field_get(s.pllcfgr, PLLSRC)),
         hpre: hpre_value(field_get(s.cfgr, HPRE)),
         p: 2 * (field_get(s.pllcfgr, PLLP) as u8 + 1),
         m: field_get(s.pllcfgr, PLLM) as u8,
@@ -139,14 +139,11 @@ fn step_of_power(s: &State) -> u8
     }
 }
 
-pub fn src_of(code: u32) -> Src
-    ensures { result ≡ src_of code }
+/// The source that a field of RCC_CFGR or RCC_PLLCFGR means.
+pub fn source_of(field: u32) -> Src
+    ensures { result ≡ source_of field }
 {
-    match code {
-        0 => Src::Hsi,
-        1 => Src::Hse,
-        _ => Src::Pll,
-    }
+    Src::of(u64::from(field))
 }
 
 fn hpre_value(code: u32) -> u16

@@ -4,7 +4,7 @@ ghost use Rattle.reg_machine.specs.Legal.{is_legal};
 ghost use Rattle.reg_machine.specs.Words.{IsStored};
 ghost use Rattle.reg_machine.specs.Reset.{reset_gpio, reset_of};
 
-use crate::clocks::{is_choice_legal, is_vco_legal, src_of, tree_of};
+use crate::clocks::{is_choice_legal, is_vco_legal, source_of, tree_of};
 use crate::op::{Answer, Op, Stepped};
 use crate::pins::{are_pins_legal, mode_at};
 use crate::power::{power_of, vos_mask};
@@ -101,9 +101,9 @@ impl Machine {
 
     /// The source of SYSCLK that is in effect, as SWS reads (RM0090, RCC_CFGR).
     pub fn source(&self) -> Src
-        ensures { result ≡ src_of self.now.state.source }
+        ensures { result ≡ source_of self.now.state.source }
     {
-        src_of(self.state.source)
+        source_of(self.state.source)
     }
 
     /// The wait states of the flash that are in effect, as LATENCY reads (RM0090, FLASH_ACR).

@@ -2,27 +2,15 @@
 ghost use Rattle.std.specs.Prelude.{◌≡◌, ◌≢◌, IfOk};
 ghost use Rattle.choice_rank.specs.Choices.{IsChoice};
 ghost use Rattle.problem.specs.ClockValues.{clock_at};
-ghost use Rattle.res_model.specs.Clock.{AreFacts, IsInRange, hclk_of};
-ghost use Rattle.res_model.specs.Power.{wait_of};
+ghost use Rattle.res_model.specs.Clock.{AreFacts, IsInRange};
 ghost use Rattle.report.specs.Reported.{tree_text};
 
-use clock_tree::{nodes, tree_text};
-use power_flash::least_wait;
+use clock_tree::tree_text;
+use power_flash::wait_at;
 use problem::{Problem, clocks_are_in_range};
 use res_base::OutOfMemory;
-use res_model::{ClockChoice, Facts, Tables};
+use res_model::ClockChoice;
 use std::alloc::Global;
-
-/// The least wait states under which the flash keeps up with HCLK.
-#[tactic(auto, unfolding(res_model::specs::Clock::nodes_of))]
-fn wait_at(t: &Tables, f: &Facts, c: &ClockChoice) -> Option<u8>
-    requires facts { AreFacts f.now }
-    requires choice { IsInRange c.now }
-    ensures { result ≡ wait_of t.now f.now.vdd (hclk_of f.now c.now) }
-{
-    let hclk = nodes(f, c).hclk;
-    least_wait(t, f.vdd, &hclk)
-}
 
 /// The clocks of a choice of a whole problem.
 pub(crate) fn clock_in(p: &Problem, at: &[u16]) -> ClockChoice

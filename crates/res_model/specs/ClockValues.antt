@@ -1,5 +1,16 @@
 -- The values that the clock tree's fields can have, and the frequency of the HSI.
 use Rattle.std.specs.Prelude.{ℕ, ◌==◌, ◌||◌, Bool, List, [], ◌∷◌, if◌then◌else◌}
+use Rattle.res_model.specs.declared.clock.Src.{Src}
+use Rattle.res_model.specs.declared.clock.Src.TheVariants.{Hsi, Hse, Pll}
+
+-- a source as the clock variables and the registers have it: HSI 0, HSE 1 and PLL 2 (RM0090, SW of RCC_CFGR)
+abbrev pub source_of : ℕ → Src
+source_of number = if number == 0 then Hsi else (if number == 1 then Hse else Pll)
+
+abbrev pub source_number : Src → ℕ
+source_number Hsi = 0
+source_number Hse = 1
+source_number Pll = 2
 
 -- the dividers of AHB, and those of APB1 and APB2 (RM0090, RCC_CFGR), and those of the PLL's output (RCC_PLLCFGR)
 abbrev pub ahb_dividers : List ℕ

@@ -1,5 +1,6 @@
 pub mod Clock
 pub mod ClockValues
+pub mod LimitNumbers
 pub mod Limits
 pub mod NameOrder
 pub mod Numbers

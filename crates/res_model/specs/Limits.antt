@@ -4,9 +4,11 @@ use Rattle.std.specs.Prelude.{ℕ, ◌==◌, ◌&&◌, ◌||◌, ◌↔◌, Bool
 use Rattle.res_base.specs.Fraction.{Fraction, IsAtMost, Equals, at_most, whole}
 use Rattle.res_model.specs.Clock.{IsBetween, hse_used, pll_used, vco_in_of, vco_of, clk48_of, sysclk_of, hclk_of, pclk1_of, pclk2_of}
 use Rattle.res_model.specs.ClockValues.{has_over}
+use Rattle.res_model.specs.LimitNumbers.{limit_number}
 use Rattle.res_model.specs.Power.{RowCovers, is_covered, speeds_at, scale_limit, is_within_max}
 use Rattle.res_model.specs.declared.clock.ClockChoice.{ClockChoice}
 use Rattle.res_model.specs.declared.clock.Facts.{Facts}
+use Rattle.res_model.specs.declared.limit.Limit.TheVariants as name
 use Rattle.res_model.specs.declared.table.TableParts.{TableParts}
 
 -- what the 48 MHz output must be
@@ -108,21 +110,21 @@ is_fed t f = f.osc_in && (nat_le (hse_bounds t f).0 f.hse_hz && nat_le f.hse_hz 
 -- the limits in ascending order, each with its number and whether the choice meets it
 unfoldable pub limits_of : TableParts → Facts → ClockChoice → List (ℕ × Bool)
 limits_of t f c =
-    (3, where_so (hse_used f c) (is_fed t f))
-    ∷ (4, where_so (pll_used f c) (are_within t.limits.vco_in (vco_in_of f c)))
-    ∷ (5, where_so (pll_used f c) (are_within t.limits.vco (vco_of f c)))
-    ∷ (6, at_most (sysclk_of f c) (whole (speeds_at t c.vos).sysclk))
-    ∷ (7, is_within_max (hclk_of f c) (scale_limit t c.vos))
-    ∷ (8, at_most (pclk1_of f c) (whole (speeds_at t c.vos).pclk1))
-    ∷ (9, at_most (pclk2_of f c) (whole (speeds_at t c.vos).pclk2))
-    ∷ (10, where_so f.exact48 (is_equal (clk48_of f c) (whole mhz_48)))
-    ∷ (11, where_so f.most48 (at_most (clk48_of f c) (whole mhz_48)))
-    ∷ (12, at_most (whole f.floor) (hclk_of f c))
-    ∷ (13, is_covered t f.vdd (hclk_of f c))
-    ∷ (14, is_as_wished f.hclk (hclk_of f c))
-    ∷ (15, is_as_wished f.pclk1 (pclk1_of f c))
-    ∷ (16, is_as_wished f.pclk2 (pclk2_of f c))
-    ∷ (17, where_so (has_over c.vos) (pll_used f c))
+    (limit_number name.Hse, where_so (hse_used f c) (is_fed t f))
+    ∷ (limit_number name.VcoIn, where_so (pll_used f c) (are_within t.limits.vco_in (vco_in_of f c)))
+    ∷ (limit_number name.Vco, where_so (pll_used f c) (are_within t.limits.vco (vco_of f c)))
+    ∷ (limit_number name.Sysclk, at_most (sysclk_of f c) (whole (speeds_at t c.vos).sysclk))
+    ∷ (limit_number name.Hclk, is_within_max (hclk_of f c) (scale_limit t c.vos))
+    ∷ (limit_number name.Pclk1, at_most (pclk1_of f c) (whole (speeds_at t c.vos).pclk1))
+    ∷ (limit_number name.Pclk2, at_most (pclk2_of f c) (whole (speeds_at t c.vos).pclk2))
+    ∷ (limit_number name.Exact48, where_so f.exact48 (is_equal (clk48_of f c) (whole mhz_48)))
+    ∷ (limit_number name.Most48, where_so f.most48 (at_most (clk48_of f c) (whole mhz_48)))
+    ∷ (limit_number name.Floor, at_most (whole f.floor) (hclk_of f c))
+    ∷ (limit_number name.FlashRow, is_covered t f.vdd (hclk_of f c))
+    ∷ (limit_number name.HclkWish, is_as_wished f.hclk (hclk_of f c))
+    ∷ (limit_number name.Pclk1Wish, is_as_wished f.pclk1 (pclk1_of f c))
+    ∷ (limit_number name.Pclk2Wish, is_as_wished f.pclk2 (pclk2_of f c))
+    ∷ (limit_number name.OverDrive, where_so (has_over c.vos) (pll_used f c))
     ∷ []
 
 -- the limit of a number is met
@@ -145,18 +147,18 @@ broken_limit t f c = first_broken (limits_of t f c)
 
 -- each test tells whether its sentence holds
 pub record TestsTell (t : TableParts) (f : Facts) (c : ClockChoice) : Type 0 where
-  pub hse : IsTrue (meets_limit t f c 3) ↔ HseIsFed t f c
-  pub vco_in : IsTrue (meets_limit t f c 4) ↔ VcoInIsWithin t f c
-  pub vco : IsTrue (meets_limit t f c 5) ↔ VcoIsWithin t f c
-  pub sysclk : IsTrue (meets_limit t f c 6) ↔ SysclkIsWithin t f c
-  pub scale : IsTrue (meets_limit t f c 7) ↔ HclkIsWithinScale t f c
-  pub pclk1 : IsTrue (meets_limit t f c 8) ↔ Pclk1IsWithin t f c
-  pub pclk2 : IsTrue (meets_limit t f c 9) ↔ Pclk2IsWithin t f c
-  pub exact48 : IsTrue (meets_limit t f c 10) ↔ Clk48IsExact t f c
-  pub most48 : IsTrue (meets_limit t f c 11) ↔ Clk48IsMost t f c
-  pub floor : IsTrue (meets_limit t f c 12) ↔ HclkIsAboveFloor t f c
-  pub covered : IsTrue (meets_limit t f c 13) ↔ HclkIsCovered t f c
-  pub hclk_wish : IsTrue (meets_limit t f c 14) ↔ HclkIsAsWished t f c
-  pub pclk1_wish : IsTrue (meets_limit t f c 15) ↔ Pclk1IsAsWished t f c
-  pub pclk2_wish : IsTrue (meets_limit t f c 16) ↔ Pclk2IsAsWished t f c
-  pub over : IsTrue (meets_limit t f c 17) ↔ PllIsUsedWithOver t f c
+  pub hse : IsTrue (meets_limit t f c (limit_number name.Hse)) ↔ HseIsFed t f c
+  pub vco_in : IsTrue (meets_limit t f c (limit_number name.VcoIn)) ↔ VcoInIsWithin t f c
+  pub vco : IsTrue (meets_limit t f c (limit_number name.Vco)) ↔ VcoIsWithin t f c
+  pub sysclk : IsTrue (meets_limit t f c (limit_number name.Sysclk)) ↔ SysclkIsWithin t f c
+  pub scale : IsTrue (meets_limit t f c (limit_number name.Hclk)) ↔ HclkIsWithinScale t f c
+  pub pclk1 : IsTrue (meets_limit t f c (limit_number name.Pclk1)) ↔ Pclk1IsWithin t f c
+  pub pclk2 : IsTrue (meets_limit t f c (limit_number name.Pclk2)) ↔ Pclk2IsWithin t f c
+  pub exact48 : IsTrue (meets_limit t f c (limit_number name.Exact48)) ↔ Clk48IsExact t f c
+  pub most48 : IsTrue (meets_limit t f c (limit_number name.Most48)) ↔ Clk48IsMost t f c
+  pub floor : IsTrue (meets_limit t f c (limit_number name.Floor)) ↔ HclkIsAboveFloor t f c
+  pub covered : IsTrue (meets_limit t f c (limit_number name.FlashRow)) ↔ HclkIsCovered t f c
+  pub hclk_wish : IsTrue (meets_limit t f c (limit_number name.HclkWish)) ↔ HclkIsAsWished t f c
+  pub pclk1_wish : IsTrue (meets_limit t f c (limit_number name.Pclk1Wish)) ↔ Pclk1IsAsWished t f c
+  pub pclk2_wish : IsTrue (meets_limit t f c (limit_number name.Pclk2Wish)) ↔ Pclk2IsAsWished t f c
+  pub over : IsTrue (meets_limit t f c (limit_number name.OverDrive)) ↔ PllIsUsedWithOver t f c

@@ -1,4 +1,7 @@
 //! The plain data of the clock tree.
+ghost use Rattle.std.specs.Prelude.{◌≡◌};
+ghost use Rattle.res_model.specs.ClockValues.{source_of, source_number};
+
 use res_base::Ratio;
 
 /// A source of the system clock, or of the PLL, which does not feed itself.
@@ -10,6 +13,30 @@ pub enum Src {
     Hse,
     /// The PLL's system output.
     Pll,
+}
+
+impl Src {
+    /// The source that a clock variable or a register means by a number: HSI by 0, HSE by 1 and the PLL by any other.
+    pub fn of(number: u64) -> Src
+        ensures { result ≡ source_of number }
+    {
+        match number {
+            0 => Src::Hsi,
+            1 => Src::Hse,
+            _ => Src::Pll,
+        }
+    }
+
+    /// The number by which clock variables and registers mean this source.
+    pub fn number(self) -> u8
+        ensures { result ≡ source_number self }
+    {
+        match self {
+            Src::Hsi => 0,
+            Src::Hse => 1,
+            Src::Pll => 2,
+        }
+    }
 }
 
 /// A value for each clock variable: the source of SYSCLK, the source of the PLL (HSI or HSE), the divider of AHB,

@@ -1,30 +1,18 @@
 //! The clock tree of a project's homes.
 ghost use Rattle.std.specs.Prelude.{◌≡◌, ◌<◌, ◌^◌, ◌++◌, [], ◌∷◌, true, Ok, IfOk, string_bytes};
-ghost use Rattle.res_model.specs.Clock.{AreFacts, IsInRange, facts_of, hclk_of};
+ghost use Rattle.res_model.specs.Clock.{AreFacts, IsInRange, facts_of};
 ghost use Rattle.res_model.specs.declared.opts.Free.TheVariants.{Pins};
 ghost use Rattle.ioc_project.specs.Read.{IsRead};
 ghost use Rattle.ioc_project.specs.Project.{all_within, domain_tests};
-ghost use Rattle.res_model.specs.Power.{wait_of};
 ghost use Rattle.resolver.specs.HomeTree.{AreHomes, choice_text, home_at, home_choice, home_nodes, home_text, limits_line};
-ghost use Rattle.res_model.specs.ClockValues.{source_of};
 
 use clock_limits::broken;
 use clock_tree::{nodes, tree_text};
 use ioc_project::facts;
-use power_flash::least_wait;
+use power_flash::wait_at;
 use res_base::OutOfMemory;
 use res_model::{ClockChoice, Facts, Home, Nodes, Opts, Project, Src, Tables};
 use std::alloc::{AllocError, Global};
-
-fn source_of(code: u64) -> Src
-    ensures { result ≡ source_of code }
-{
-    match code {
-        0 => Src::Hsi,
-        1 => Src::Hse,
-        _ => Src::Pll,
-    }
-}
 
 /// The choice that leaves each clock variable at home.
 #[tactic(auto, unfolding(crate::specs::HomeTree::home_choice))]
@@ -33,8 +21,8 @@ fn home_choice(homes: &[Home; 10]) -> ClockChoice
     ensures { result ≡ home_choice homes.now }
 {
     ClockChoice {
-        src: source_of(homes[0].value),
-        psrc: source_of(homes[1].value),
+        src: Src::of(homes[0].value),
+        psrc: Src::of(homes[1].value),
         hpre: homes[2].value as u16,
         p: homes[3].value as u8,
         m: homes[4].value as u8,
@@ -53,17 +41,6 @@ fn limits_line(alloc: Global, limit: Option<u8>) -> Result<String, AllocError>
         None => String::from_str(alloc, "limits met"),
         Some(limit) => format!(in alloc; "limits broken L {limit}"),
     }
-}
-
-/// The least wait states under which the flash keeps up with HCLK.
-#[tactic(auto, unfolding(res_model::specs::Clock::nodes_of))]
-fn wait_at(t: &Tables, f: &Facts, c: &ClockChoice) -> Option<u8>
-    requires facts { AreFacts f.now }
-    requires choice { IsInRange c.now }
-    ensures { result ≡ wait_of t.now f.now.vdd (hclk_of f.now c.now) }
-{
-    let hclk = nodes(f, c).hclk;
-    least_wait(t, f.vdd, &hclk)
 }
 
 /// The text of a clock choice, and the least limit that it breaks.

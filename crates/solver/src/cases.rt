@@ -8,10 +8,10 @@ ghost use Rattle.problem.specs.declared.parts.Part.TheVariants as part;
 ghost use Rattle.res_model.specs.Placed.{IsPlaced};
 ghost use Rattle.solver.specs.Owed.{OfCase, OfProblem};
 
-use crate::least::{least_of, too_wide};
+use crate::wide::too_wide;
 use answers::{Answer, Status, says};
 use box_judge::PinClockJudge;
-use choice_rank::ShapeFault;
+use choice_rank::{ShapeFault, least_of};
 use problem::{Part, Problem, build};
 use report::case_text;
 use res_base::{Items, OutOfMemory};

@@ -3,12 +3,13 @@
 
 mod cases;
 mod checked;
-mod least;
 mod pins;
 mod proof_text;
 mod whole;
+mod wide;
 
 pub use cases::resolve_case;
 pub use checked::check;
 pub use pins::place;
 pub use whole::resolve;
+pub use wide::too_wide;

@@ -18,12 +18,12 @@ ghost use Rattle.res_model.specs.Valid.{IsValid};
 ghost use Rattle.solver.specs.Owed.{AreReadBack, AreSound, OfProblem, OfWhole};
 ghost use Rattle.solver.specs.Spelled.{IsAsked};
 
-use crate::least::{least_of, too_wide};
 use crate::proof_text::refutation_text;
+use crate::wide::too_wide;
 use access_lines::accesses_are_read;
 use answers::{Answer, Status};
 use box_judge::PinClockJudge;
-use choice_rank::ShapeFault;
+use choice_rank::{ShapeFault, least_of};
 use choice_setup::{choices_are_allowed, generate};
 use problem::{Part, Problem, build};
 use reg_machine::Op;

@@ -1,5 +1,5 @@
-use Rattle.ioc_answer.proofs.LeastLemmas.{ranked, unranked}
-use Rattle.ioc_answer.proofs.least.least_of.Goals as goal
+use Rattle.choice_rank.proofs.LeastLemmas.{ranked, unranked}
+use Rattle.choice_rank.proofs.least.least_of.Goals as goal
 
 pub returns-clause-least : goal.returns-clause-least
 returns-clause-least c = λ legal answer. unranked c.args.shape.now legal c.args.rank c.in_ok-at.at.items answer c.in_ok-at.ensures.choice c.in_ok-at.ensures.index
