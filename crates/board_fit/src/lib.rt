@@ -2,7 +2,6 @@
 #![tactic(auto)]
 
 mod boards;
-mod clocks;
 mod copies;
 mod fixing;
 mod laws;

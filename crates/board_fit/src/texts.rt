@@ -11,13 +11,12 @@ ghost use Rattle.res_base.specs.Lists.{Each};
 ghost use Rattle.solver.specs.Owed.{AreReadBack, AreSound};
 ghost use Rattle.board_fit.specs.Texts.{cost_line, parts_text};
 
-use crate::clocks::clocks_text;
 use access_lines::accesses_are_read;
 use c_print::c_text;
 use choice_setup::{choices_are_allowed, generate};
 use problem::Problem;
 use reg_machine::Op;
-use report::pins_text;
+use report::{clocks_text, pins_text};
 use res_base::{OutOfMemory, put_dec};
 use std::alloc::Global;
 

@@ -26,7 +26,7 @@ pub(crate) fn clock_in(p: &Problem, at: &[u16]) -> ClockChoice
 }
 
 /// The text of the clocks of a choice of a whole problem.
-pub(crate) fn clocks_text(alloc: Global, p: &Problem, at: &[u16]) -> Result<Vec<u8>, OutOfMemory>
+pub fn clocks_text(alloc: Global, p: &Problem, at: &[u16]) -> Result<Vec<u8>, OutOfMemory>
     requires choice { IsChoice p.now.shape at.now }
     requires whole { p.now.first ≢ 0 }
     ensures { IfOk result (λ x. x.items ≡ tree_text p.now (clock_at p.now.clock at.now)) }

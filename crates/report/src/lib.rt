@@ -8,5 +8,6 @@ mod placement;
 mod reports;
 
 pub use cases::case_text;
+pub use clocks::clocks_text;
 pub use placement::{pins_text, placement_text};
 pub use reports::report_text;
