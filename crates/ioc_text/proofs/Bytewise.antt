@@ -4,7 +4,7 @@ use Rattle.std.proofs.Math.Seq.{drop-cons}
 use Rattle.std.proofs.lemmas.Bool.Decides.{nat_tests}
 use Rattle.ioc_text.specs.Lines.{equals_from, undone_from, after_bytes, is_escapable}
 
-first_and_more : (bytes : List ℕ) (at : ℕ) → at < length bytes → drop at bytes ≡ get_or bytes at 0 ∷ drop (at + 1) bytes
+pub first_and_more : (bytes : List ℕ) (at : ℕ) → at < length bytes → drop at bytes ≡ get_or bytes at 0 ∷ drop (at + 1) bytes
 first_and_more bytes at lt = rw add-one (drop-cons bytes at 0 lt)
 
 differs : (m n : ℕ) → m ≢ n → eqb m n ≡ false

@@ -1,4 +1,4 @@
-mod Bytewise
+pub mod Bytewise
 mod Cuts
 mod Once
 mod Places

@@ -7,7 +7,7 @@ use std::alloc::AllocError;
 
 /// The place of the `=` that divides a line's key and value.
 #[tactic(auto, unfolding(crate::specs::Lines::equals_at, crate::specs::Lines::equals_from))]
-pub(crate) fn equals_at(line: &[u8]) -> Option<usize>
+pub fn equals_at(line: &[u8]) -> Option<usize>
     ensures place { result ≡ equals_at line.now }
     ensures within { IfSome result (λ at. at < length line.now) }
 {
@@ -32,7 +32,7 @@ fn is_escapable(b: u8) -> bool
 
 /// Leaves the bytes with escapes undone in `out`, and answers whether each escape is known.
 #[tactic(auto, unfolding(crate::specs::Lines::undone, crate::specs::Lines::undone_from))]
-pub(crate) fn undo_into(out: &mut Vec<u8>, bytes: &[u8]) -> Result<bool, AllocError>
+pub fn undo_into(out: &mut Vec<u8>, bytes: &[u8]) -> Result<bool, AllocError>
     ensures { MatchResult result (λ known. undone bytes.now ≡ (if known then Some out.new.items else None)) (λ _. ⊤) }
 {
     out.clear();

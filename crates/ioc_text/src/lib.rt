@@ -10,6 +10,7 @@ mod lines;
 mod marks;
 mod read;
 
+pub use escapes::{equals_at, undo_into};
 pub use fault::IocFault;
 pub use ioc::Ioc;
 pub use keys::pin_number;

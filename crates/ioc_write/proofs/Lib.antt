@@ -1,7 +1,6 @@
 mod ApartLemmas
 mod AppendLemmas
 mod BackLemmas
-mod Bytewise
 mod ChangeLemmas
 mod CleanLemmas
 mod ClocksBack
@@ -28,5 +27,4 @@ mod SignalsBack
 mod StepsBack
 mod SuitLemmas
 mod TextBack
-mod UseLemmas
 mod Walks

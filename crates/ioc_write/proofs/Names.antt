@@ -3,7 +3,7 @@ use Rattle.std.proofs.Common.{◌≡◌, ℕ, arith, ◌+◌, ◌<◌, ◌==◌,
 use Rattle.std.specs.Prelude.{IfSome}
 use Rattle.res_base.proofs.SumLemmas.{bool_cases}
 use Rattle.ioc_lines.specs.Lines.{last_dot, first_or_later, escaped, escaped_byte}
-use Rattle.ioc_write.proofs.Bytewise.{first_and_more}
+use Rattle.ioc_text.proofs.Bytewise.{first_and_more}
 
 -- the last dot of what stands from a place on, or else that before it
 abbrev pub later : Option ℕ → ℕ → Option ℕ → Option ℕ

@@ -54,7 +54,7 @@ use Rattle.ioc_write.proofs.PinNames.{get_member, get_some, place_name}
 use Rattle.ioc_write.proofs.SignalsBack.{name_is, place_same, puts_moved}
 use Rattle.ioc_write.proofs.StepsBack as steps
 use Rattle.ioc_write.proofs.TextBack.{NearAll}
-use Rattle.ioc_write.proofs.UseLemmas.{drop_choice}
+use Rattle.problem.proofs.ChoiceUses.{drop_choice}
 
 abbrev Placed : Type 0
 Placed = List (ℕ × List ℕ)

@@ -52,7 +52,7 @@ use Rattle.ioc_write.proofs.LineBack.{decimal_value}
 use Rattle.ioc_write.proofs.LookBack.{DoesNotEndInCr, IsPlainKey, lookup_none, lookup_to, stays}
 use Rattle.ioc_write.proofs.OutLemmas.{OutSays, Suits, TextSays, all_needs, appended_entries, inside_moves, out_says, set_of, text_says}
 use Rattle.ioc_write.proofs.SuitLemmas.{WasRead, suits, was_read}
-use Rattle.ioc_write.proofs.UseLemmas.{drop_choice, length_uses}
+use Rattle.problem.proofs.ChoiceUses.{drop_choice, length_uses}
 
 decimal_low : (n : ℕ) → n < 2 ^ 64 → Each (λ (b : ℕ). b ≤ 57) (decimal n)
 decimal_low = decimal_by_steps (λ m ds. Each (λ (b : ℕ). b ≤ 57) ds) (λ m l. (omega arith, tt)) (λ m ds l h. low_push ds (48 + m % 10) h (omega arith))

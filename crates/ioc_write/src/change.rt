@@ -4,12 +4,11 @@ ghost use Rattle.ioc_write.specs.Plans.{IsPlan};
 ghost use Rattle.ioc_write.specs.WriteBack.{change_by, change_of_key, keyed_by, naming, named_by, variable_of};
 ghost use Rattle.ioc_text.specs.Lines.{undone};
 
-use crate::escapes::undo_into;
 use crate::fate::Fate;
 use crate::keys::pin_part;
 use crate::plan::Plan;
 use crate::variable::{Variable, variable_of};
-use ioc_text::pin_number;
+use ioc_text::{pin_number, undo_into};
 use res_base::OutOfMemory;
 
 /// What becomes of a line.

@@ -3,7 +3,7 @@ ghost use Rattle.std.specs.Prelude.{◌≡◌, ◌==◌, ◌<◌, if◌then◌el
 ghost use Rattle.ioc_text.specs.Lines.{is_quiet};
 ghost use Rattle.ioc_lines.specs.Lines.{Keyed, keyed, keyed_at, last_dot, pin_part, rest_from};
 
-use crate::escapes::{equals_at, undo_into};
+use ioc_text::{equals_at, undo_into};
 use res_base::OutOfMemory;
 
 /// It is empty, or begins with `#`.

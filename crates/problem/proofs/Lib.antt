@@ -1,4 +1,5 @@
 pub mod AgreeLemmas
+pub mod ChoiceUses
 pub mod ChosenLemmas
 pub mod DomainLemmas
 pub mod MeetsLemmas

@@ -1,5 +1,5 @@
 use Rattle.std.proofs.Common.{◌≡◌, ◌≤◌, length, arith}
-use Rattle.ioc_write.proofs.UseLemmas.{first_fits, length_choice}
+use Rattle.problem.proofs.ChoiceUses.{first_fits, length_choice}
 use Rattle.ioc_write.proofs.plan.has_clocks.Goals as goal
 
 pub returns-clause-at : goal.returns-clause-at

@@ -1,5 +1,5 @@
 use Rattle.std.proofs.Common.{◌∙◌, drop, sym}
-use Rattle.ioc_write.proofs.UseLemmas.{drop_choice, first_fits, length_uses}
+use Rattle.problem.proofs.ChoiceUses.{drop_choice, first_fits, length_uses}
 use Rattle.ioc_write.proofs.plan.has_places.Goals as goal
 
 pub returns-clause-first : goal.returns-clause-first

@@ -1,5 +1,5 @@
 use Rattle.std.proofs.Common.{arith}
-use Rattle.ioc_write.proofs.UseLemmas.{uses_end}
+use Rattle.problem.proofs.ChoiceUses.{uses_end}
 use Rattle.ioc_write.proofs.plan.uses_at.Goals as goal
 
 pub returns : goal.returns

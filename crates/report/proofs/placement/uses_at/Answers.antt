@@ -1,5 +1,5 @@
 use Rattle.std.proofs.Common.{arith}
-use Rattle.report.proofs.UseLemmas.{uses_end}
+use Rattle.problem.proofs.ChoiceUses.{uses_end}
 use Rattle.report.proofs.placement.uses_at.Goals as goal
 
 pub returns : goal.returns
