@@ -14,7 +14,7 @@ ghost use Rattle.box_rules.specs.Judged.{HasResources};
 
 use pin_match::Matcher;
 use res_base::{Items, OutOfMemory, VarSet};
-use res_model::{Mode, PinUse, TableParts, pin_number};
+use res_model::{Mode, PinUse, TableParts, number_on_port};
 use search_api::Class;
 use std::alloc::Global;
 
@@ -66,7 +66,7 @@ fn resource_of(t: &TableParts, class: Class, u: PinUse) -> u8
 {
     match class {
         Class::Pins => u.pin,
-        Class::Exti => pin_number(t, u.pin),
+        Class::Exti => number_on_port(t, u.pin),
     }
 }
 

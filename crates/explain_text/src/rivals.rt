@@ -11,7 +11,7 @@ ghost use Rattle.explain_text.specs.Reasons.{hall_text, head_line, is_wanted_by,
 use crate::hertz::put_number;
 use problem::ProblemParts;
 use res_base::{OutOfMemory, VarSet};
-use res_model::{PinUse, Signal, TableParts, pin_number};
+use res_model::{PinUse, Signal, TableParts, number_on_port};
 use search_api::Class;
 use std::alloc::{AllocError, Global};
 
@@ -59,7 +59,7 @@ fn resource_of(t: &TableParts, class: Class, at: PinUse) -> u8
 {
     match class {
         Class::Pins => at.pin,
-        Class::Exti => pin_number(t, at.pin),
+        Class::Exti => number_on_port(t, at.pin),
     }
 }
 

@@ -6,7 +6,7 @@ ghost use Rattle.res_model.specs.declared.table.PinUse.{PinUse};
 ghost use Rattle.res_model.specs.Placement.{number_of, is_exti, shares_pin, shares_line, clashes, fits, Fits};
 ghost use Rattle.pin_rules.specs.Clash.{IsFirstClash};
 
-use res_model::{Mode, PinUse, TableParts, Tables, pin_number};
+use res_model::{Mode, PinUse, TableParts, Tables, number_on_port};
 
 fn is_exti(mode: Mode) -> bool
     ensures { result ≡ is_exti mode }
@@ -17,7 +17,7 @@ fn is_exti(mode: Mode) -> bool
 fn shares_line(t: &TableParts, u: PinUse, w: PinUse) -> bool
     ensures { result ≡ shares_line t.now u w }
 {
-    is_exti(u.mode) && is_exti(w.mode) && pin_number(t, u.pin) == pin_number(t, w.pin)
+    is_exti(u.mode) && is_exti(w.mode) && number_on_port(t, u.pin) == number_on_port(t, w.pin)
 }
 
 fn clashes(t: &TableParts, u: PinUse, w: PinUse) -> bool

@@ -14,7 +14,7 @@ mod table;
 pub use clock::{ClockBox, ClockChoice, Facts, Nodes, Range, Src};
 pub use limit::Limit;
 pub use opts::{Free, Opts};
-pub use pins::pin_number;
+pub use pins::number_on_port;
 pub use power::{has_over, scale_limit, scale_of_step, speeds_at};
 pub use project::{Home, Project, Pull, Signal, Speed};
 pub use table::{
