@@ -2,8 +2,8 @@
 use Rattle.std.specs.Prelude.{◌≡◌, ℕ, ◌+◌, ◌<◌, List, length, slice_index}
 use Rattle.res_model.specs.declared.clock.ClockBox.{ClockBox}
 use Rattle.res_model.specs.declared.clock.Facts.{Facts}
-use Rattle.clock_limits.specs.Ranges.{Allowed, clk48_range, hclk_range, pclk1_range, pclk2_range, sysclk_range, values_at, vco_in_range, vco_range}
-use Rattle.box_spans.specs.declared.ranges.NodeRanges.{NodeRanges}
+use Rattle.clock_limits.specs.Ranges.{Allowed, clk48_range, hclk_range, hclk_reach, pclk1_range, pclk2_range, sysclk_range, values_at, vco_in_range, vco_range}
+use Rattle.clock_limits.specs.declared.ranges.NodeRanges.{NodeRanges}
 
 -- all values of each clock variable
 abbrev pub every : List (List ℕ) → Allowed
@@ -27,6 +27,7 @@ ranges_of f values = record {
   vco = vco_range f (every values);
   clk48 = clk48_range f (every values);
   sysclk = sysclk_range f (every values);
+  hclk_reach = hclk_reach f (every values);
   hclk = hclk_range f (every values);
   pclk1 = pclk1_range f (every values);
   pclk2 = pclk2_range f (every values);

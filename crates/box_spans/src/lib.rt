@@ -6,4 +6,4 @@ mod ranges;
 mod runs;
 
 pub use laws::whole_box_has_every_value;
-pub use ranges::{NodeRanges, spans};
+pub use ranges::spans;

@@ -1,4 +1,4 @@
--- Internal: how large values and nodes are.
+-- How large values and nodes are.
 use Rattle.std.specs.Prelude.{ℕ, ◌<◌, ◌≤◌, List, length}
 use Rattle.res_model.specs.Clock.{IsBetween}
 use Rattle.clock_limits.specs.Ranges.{Allowed, least_of, greatest_of}

@@ -6,6 +6,8 @@ use Rattle.res_base.specs.Fraction.{Fraction, IsAtMost, at_most, whole, times, o
 use Rattle.res_base.specs.Lists.{Each, Member}
 use Rattle.res_model.specs.ClockValues.{has_over, hsi, source_number}
 use Rattle.res_model.specs.Clock.{IsBetween}
+use Rattle.res_model.specs.LimitNumbers.{limit_number}
+use Rattle.res_model.specs.declared.limit.Limit.TheVariants as name
 use Rattle.res_model.specs.Limits.{where_so, is_fed, mhz_48, first_broken, is_met}
 use Rattle.res_model.specs.Power.{is_covered, speeds_at, scale_limit, is_within_max}
 use Rattle.res_model.specs.declared.clock.ClockBox.{ClockBox}
@@ -227,21 +229,21 @@ has_wish (Some wish) r = has r (whole wish)
 -- the limits in ascending order, each with its number and whether the ranges leave room for it
 unfoldable pub limits_over : TableParts → Facts → Allowed → List (ℕ × Bool)
 limits_over t f a =
-    (3, where_so (sure_hse f a) (is_fed t f))
-    ∷ (4, where_so (sure_pll f a) (overlaps t.limits.vco_in (vco_in_range f a)))
-    ∷ (5, where_so (sure_pll f a) (overlaps t.limits.vco (vco_range f a)))
-    ∷ (6, some_sysclk t (sysclk_range f a).least a.vos)
-    ∷ (7, list_any (λ vos. is_within_max (hclk_range f a).least (scale_limit t vos)) a.vos)
-    ∷ (8, some_pclk1 t (pclk1_range f a).least a.vos)
-    ∷ (9, some_pclk2 t (pclk2_range f a).least a.vos)
-    ∷ (10, where_so f.exact48 (has (clk48_range f a) (whole mhz_48)))
-    ∷ (11, where_so f.most48 (at_most (clk48_range f a).least (whole mhz_48)))
-    ∷ (12, at_most (whole f.floor) (hclk_range f a).most)
-    ∷ (13, is_covered t f.vdd (hclk_range f a).least)
-    ∷ (14, has_wish f.hclk (hclk_reach f a))
-    ∷ (15, has_wish f.pclk1 (pclk1_range f a))
-    ∷ (16, has_wish f.pclk2 (pclk2_range f a))
-    ∷ (17, where_so (sure_over a) (may_pll f a))
+    (limit_number name.Hse, where_so (sure_hse f a) (is_fed t f))
+    ∷ (limit_number name.VcoIn, where_so (sure_pll f a) (overlaps t.limits.vco_in (vco_in_range f a)))
+    ∷ (limit_number name.Vco, where_so (sure_pll f a) (overlaps t.limits.vco (vco_range f a)))
+    ∷ (limit_number name.Sysclk, some_sysclk t (sysclk_range f a).least a.vos)
+    ∷ (limit_number name.Hclk, list_any (λ vos. is_within_max (hclk_range f a).least (scale_limit t vos)) a.vos)
+    ∷ (limit_number name.Pclk1, some_pclk1 t (pclk1_range f a).least a.vos)
+    ∷ (limit_number name.Pclk2, some_pclk2 t (pclk2_range f a).least a.vos)
+    ∷ (limit_number name.Exact48, where_so f.exact48 (has (clk48_range f a) (whole mhz_48)))
+    ∷ (limit_number name.Most48, where_so f.most48 (at_most (clk48_range f a).least (whole mhz_48)))
+    ∷ (limit_number name.Floor, at_most (whole f.floor) (hclk_range f a).most)
+    ∷ (limit_number name.FlashRow, is_covered t f.vdd (hclk_range f a).least)
+    ∷ (limit_number name.HclkWish, has_wish f.hclk (hclk_reach f a))
+    ∷ (limit_number name.Pclk1Wish, has_wish f.pclk1 (pclk1_range f a))
+    ∷ (limit_number name.Pclk2Wish, has_wish f.pclk2 (pclk2_range f a))
+    ∷ (limit_number name.OverDrive, where_so (sure_over a) (may_pll f a))
     ∷ []
 
 -- the limit of a number refutes the box: its ranges leave no room for it

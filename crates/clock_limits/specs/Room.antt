@@ -8,7 +8,7 @@ use Rattle.res_model.specs.declared.table.TableParts.{TableParts}
 use Rattle.res_model.specs.Limits.{where_so, is_fed, mhz_48}
 use Rattle.res_model.specs.Power.{is_covered, scale_limit, is_within_max}
 use Rattle.clock_limits.specs.Ranges.{Allowed, sure_pll, sure_hse, sure_over, may_pll, some_sysclk, some_pclk1, some_pclk2, overlaps, has, has_wish}
-use Rattle.clock_limits.specs.declared.ranges.Ranges.{Ranges}
+use Rattle.clock_limits.specs.declared.ranges.NodeRanges.{NodeRanges}
 
 -- the limits over ranges that are given
 abbrev pub room_over : TableParts → Facts → Allowed → Range → Range → Range → Range → Range → Range → Range → Range → List (ℕ × Bool)
@@ -30,5 +30,5 @@ room_over t f a vco_in vco clk48 sysclk reach hclk pclk1 pclk2 =
     ∷ (17, where_so (sure_over a) (may_pll f a))
     ∷ []
 
-abbrev pub room_by : TableParts → Facts → Allowed → Ranges → List (ℕ × Bool)
+abbrev pub room_by : TableParts → Facts → Allowed → NodeRanges → List (ℕ × Bool)
 room_by t f a x = room_over t f a x.vco_in x.vco x.clk48 x.sysclk x.hclk_reach x.hclk x.pclk1 x.pclk2

@@ -1,4 +1,4 @@
--- Internal: what borrowed runs of values say.
+-- What borrowed values of the clock variables say.
 use Rattle.clock_limits.specs.Ranges.{Allowed}
 use Rattle.clock_limits.specs.declared.runs.Runs.{Runs}
 

@@ -11,7 +11,7 @@ ghost use Rattle.clock_limits.specs.Room.{room_by};
 ghost use Rattle.clock_limits.specs.Runs.{seen};
 
 use crate::numbers::{MHZ_48, first_broken, is_broken, is_fed, where_so};
-use crate::ranges::{Ranges, has};
+use crate::ranges::{NodeRanges, has};
 use crate::runs::{Runs, all_are, any_is};
 use power_flash::{is_covered, is_within_scale};
 use res_base::{Items, Ratio};
@@ -102,7 +102,7 @@ fn some_pclk2(t: &TableParts, pclk2: &Ratio, steps: &[u16]) -> bool
 }
 
 /// Whether the ranges leave room for each limit, from 3 to 17.
-fn room_by(t: &TableParts, f: &Facts, r: &Runs, x: &Ranges) -> [bool; 15]
+fn room_by(t: &TableParts, f: &Facts, r: &Runs, x: &NodeRanges) -> [bool; 15]
     ensures { numbered 3 result ≡ room_by t.now f.now (seen r.now) x.now }
 {
     let limits = t.limits;
@@ -132,7 +132,7 @@ fn room_in(t: &TableParts, f: &Facts, r: &Runs) -> [bool; 15]
     requires fair { IsFair (seen r.now) }
     ensures { numbered 3 result ≡ limits_over t.now f.now (seen r.now) }
 {
-    let x = Ranges::over(f, r);
+    let x = NodeRanges::over(f, r);
     room_by(t, f, r, &x)
 }
 

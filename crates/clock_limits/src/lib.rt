@@ -11,7 +11,9 @@ mod runs;
 pub use boxes::{is_refuted_by, range_broken};
 pub use choices::broken;
 pub use laws::{
-    broken_is_least, one_choice_is_exact, refuting_alone_is_broken, refuting_is_broken, refuting_is_least,
-    tests_are_right, wish_narrows,
+    broken_is_least, one_choice_is_exact, refuting_alone_is_broken, refuting_is_broken,
+    refuting_is_least, tests_are_right, wish_narrows,
 };
+pub use ranges::NodeRanges;
 pub use res_model::{ClockBox, ClockChoice, Facts};
+pub use runs::Runs;

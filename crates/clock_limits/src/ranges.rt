@@ -10,17 +10,18 @@ use clock_tree::HSI;
 use res_base::Ratio;
 use res_model::{Facts, Range};
 
-/// The ranges of the nodes over a box. That of HCLK is narrowed by the wish for it, where its reach has the wish.
+/// The ranges of the nodes over some values of the clock variables, each from its least to its greatest. `hclk_reach` is that of
+/// HCLK as the dividers leave it; `hclk` is the wish for it alone, where its reach has the wish, and the buses follow it.
 #[derive(Clone, Copy)]
-pub(crate) struct Ranges {
-    pub(crate) vco_in: Range,
-    pub(crate) vco: Range,
-    pub(crate) clk48: Range,
-    pub(crate) sysclk: Range,
-    pub(crate) hclk_reach: Range,
-    pub(crate) hclk: Range,
-    pub(crate) pclk1: Range,
-    pub(crate) pclk2: Range,
+pub struct NodeRanges {
+    pub vco_in: Range,
+    pub vco: Range,
+    pub clk48: Range,
+    pub sysclk: Range,
+    pub hclk_reach: Range,
+    pub hclk: Range,
+    pub pclk1: Range,
+    pub pclk2: Range,
 }
 
 fn exactly(x: Ratio) -> Range
@@ -152,9 +153,9 @@ fn narrowed(wish: Option<u64>, r: &Range) -> Range
     }
 }
 
-impl Ranges {
-    /// The ranges over the values of a box.
-    pub(crate) fn over(f: &Facts, r: &Runs) -> Ranges
+impl NodeRanges {
+    /// The ranges over these values.
+    pub fn over(f: &Facts, r: &Runs) -> NodeRanges
         requires hse { f.now.hse_hz < 2 ^ 32 }
         requires fair { IsFair (seen r.now) }
         ensures vco_in { result.vco_in ≡ vco_in_range f.now (seen r.now) }
@@ -171,7 +172,7 @@ impl Ranges {
         let sysclk = sysclk(f, &divided(&vco, r.p), r.src);
         let hclk_reach = divided(&sysclk, r.hpre);
         let hclk = narrowed(f.hclk, &hclk_reach);
-        Ranges {
+        NodeRanges {
             vco_in,
             vco,
             clk48: divided(&vco, r.q),

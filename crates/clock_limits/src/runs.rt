@@ -7,19 +7,19 @@ ghost use Rattle.clock_limits.specs.Runs.{seen};
 use res_base::Items;
 use res_model::ClockBox;
 
-/// For each clock variable its values in a box.
+/// For each clock variable some of its values, with HSI 0, HSE 1 and PLL 2.
 #[derive(Clone, Copy)]
-pub(crate) struct Runs<'v> {
-    pub(crate) src: &'v [u16],
-    pub(crate) psrc: &'v [u16],
-    pub(crate) hpre: &'v [u16],
-    pub(crate) p: &'v [u16],
-    pub(crate) m: &'v [u16],
-    pub(crate) n: &'v [u16],
-    pub(crate) q: &'v [u16],
-    pub(crate) ppre1: &'v [u16],
-    pub(crate) ppre2: &'v [u16],
-    pub(crate) vos: &'v [u16],
+pub struct Runs<'v> {
+    pub src: &'v [u16],
+    pub psrc: &'v [u16],
+    pub hpre: &'v [u16],
+    pub p: &'v [u16],
+    pub m: &'v [u16],
+    pub n: &'v [u16],
+    pub q: &'v [u16],
+    pub ppre1: &'v [u16],
+    pub ppre2: &'v [u16],
+    pub vos: &'v [u16],
 }
 
 /// The values of the clock variable of this number.

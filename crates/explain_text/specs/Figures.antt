@@ -3,7 +3,7 @@
 use Rattle.std.specs.Prelude.{ℕ, ◌-◌, ◌==◌, ◌++◌, List, [], ◌∷◌, Bool, true, false, length, max, Option, Some, None, codes, decimal, if◌then◌else◌, slice_index}
 use Rattle.res_base.specs.Fraction.{Fraction}
 use Rattle.box_spans.specs.Every.{ranges_of}
-use Rattle.box_spans.specs.declared.ranges.NodeRanges.{NodeRanges}
+use Rattle.clock_limits.specs.declared.ranges.NodeRanges.{NodeRanges}
 use Rattle.clock_limits.specs.Ranges.{values_at}
 use Rattle.problem.specs.declared.parts.ProblemParts.{ProblemParts}
 use Rattle.res_model.specs.Limits.{hse_bounds, mhz_48}

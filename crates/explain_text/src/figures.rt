@@ -7,7 +7,7 @@ use crate::hertz::{hertz_text, put_number, range_text};
 use crate::power::{
     hertz_or, last_row, pclk1_most, pclk2_most, range_at, scales_most, sysclk_most,
 };
-use box_spans::NodeRanges;
+use clock_limits::NodeRanges;
 use res_base::Ratio;
 use res_model::{Facts, Range, TableParts};
 use std::alloc::{AllocError, Global};
