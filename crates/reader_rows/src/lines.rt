@@ -15,7 +15,8 @@ fn told(alloc: Global, read: &Result<Ioc, IocFault>) -> Result<String, AllocErro
     let mut out = String::new(alloc);
     match read {
         Ok(ioc) => {
-            for line in ioc.lines() {
+            let lines = ioc.lines(alloc)?;
+            for line in lines.as_slice() {
                 let (key, value) = (text_of(line.key.as_slice()), text_of(line.value.as_slice()));
                 out.push_str(format!(in alloc; "{} {key}={value}|", line.number)?.as_str())?;
             }
