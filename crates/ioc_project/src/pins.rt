@@ -10,10 +10,7 @@ use std::alloc::{AllocError, Global};
 use std::collections::BTreeMap;
 
 /// The lines of keys `Mcu.Pin<k>`, by k.
-fn numbered<'l>(
-    alloc: Global,
-    lines: &[&'l Line],
-) -> Result<BTreeMap<u64, &'l Line>, OutOfMemory>
+fn numbered<'l>(alloc: Global, lines: &[&'l Line]) -> Result<BTreeMap<u64, &'l Line>, OutOfMemory>
     ensures { IfOk result (λ m. seen m.entries ≡ numbered [] (map (λ line. line.now) lines.now)) }
 {
     let mut placed = BTreeMap::new(alloc);
