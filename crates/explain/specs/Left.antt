@@ -5,7 +5,7 @@ use Rattle.choice_rank.specs.Least.{IsLeast, NoneLegal}
 use Rattle.ioc_project.specs.Project.{project_of}
 use Rattle.ioc_project.specs.declared.fault.ProjectFault.{ProjectFault}
 use Rattle.ioc_text.specs.declared.line.Line.{Line}
-use Rattle.ioc_without.specs.Without.{without}
+use Rattle.ioc_text.specs.Without.{without}
 use Rattle.problem.specs.Meets.{meets}
 use Rattle.problem.specs.Problem.{problem_of}
 use Rattle.problem.specs.declared.parts.Part.TheVariants.{Whole}

@@ -1,8 +1,7 @@
 //! What the least choice costs.
-ghost use Rattle.std.specs.Prelude.{◌≡◌, ◌≢◌, ◌<◌, ◌^◌, None, Ok, true, length, IfOk};
+ghost use Rattle.std.specs.Prelude.{◌≡◌, ◌≢◌, ◌<◌, ◌^◌, None, true, IfOk};
 ghost use Rattle.choice_rank.specs.Choices.{IsChoice, cost_of};
 ghost use Rattle.ioc_project.specs.Read.{IsRead};
-ghost use Rattle.ioc_text.specs.Lines.{ioc_of};
 ghost use Rattle.problem.specs.Problem.{problem_of};
 ghost use Rattle.problem.specs.declared.parts.Part.TheVariants as part;
 ghost use Rattle.explain.specs.Left.{ComesTo, HasCost, IsLeastCost, lines_left, opts_left};
@@ -13,7 +12,6 @@ use box_judge::PinClockJudge;
 use choice_rank::ShapeFault;
 use ioc_project::{ProjectFault, read_project};
 use ioc_text::Ioc;
-use ioc_without::read_without;
 use least_search::{Found, found};
 use problem::{Part, Problem, build};
 use res_base::OutOfMemory;
@@ -95,26 +93,21 @@ fn cost_left(alloc: Global, t: &Tables, ioc: &Ioc, opts: &Opts) -> Result<Option
     }
 }
 
-/// What is left without a thing comes to. The lines are those of the text.
+/// What is left without a thing comes to. The lines that are left share what was read.
 pub(crate) fn cost_without(
     alloc: Global,
     t: &Tables,
-    text: &[u8],
     ioc: &Ioc,
     opts: &Opts,
     thing: Thing,
 ) -> Result<Option<u32>, OutOfMemory>
-    requires short { length text.now < 2 ^ 32 }
-    requires read { ioc_of text.now ≡ Ok ioc.now }
     ensures { IfOk result (ComesTo t.now (lines_left ioc.now thing) (opts_left opts.now thing)) }
 {
     let opts = opts_left(alloc, opts, thing)?;
     match line_of(thing) {
         None => cost_left(alloc, t, ioc, &opts),
         Some(line) => {
-            let Ok(left) = read_without(alloc, text, line) else {
-                return Err(OutOfMemory);
-            };
+            let left = ioc.without(alloc, line)?;
             cost_left(alloc, t, &left, &opts)
         }
     }

@@ -135,7 +135,7 @@ fn refused(
         return Err(OutOfMemory);
     };
     let reasons = why_text(alloc, p, proof)?;
-    let helps = helps(alloc, p, text, &ioc, opts)?;
+    let helps = helps(alloc, p, &ioc, opts)?;
     let said = refused_text(alloc, reasons.as_slice(), helps.as_slice())?;
     Ok(Answer {
         status: Status::NoChoice,

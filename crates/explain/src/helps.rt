@@ -1,6 +1,5 @@
 //! The things that help.
-ghost use Rattle.std.specs.Prelude.{◌≡◌, ◌<◌, ◌^◌, Ok, length, IfOk, string_bytes};
-ghost use Rattle.ioc_text.specs.Lines.{ioc_of};
+ghost use Rattle.std.specs.Prelude.{◌≡◌, IfOk, string_bytes};
 ghost use Rattle.explain.specs.GiveUp.{Tells, fits_line, line_if};
 ghost use Rattle.explain.specs.Things.{things, words_of};
 ghost use Rattle.explain.specs.Going.{Told};
@@ -40,17 +39,14 @@ fn line_if(alloc: Global, words: &str, cost: Option<u32>) -> Result<String, Allo
 fn line_of_thing(
     alloc: Global,
     p: &Problem,
-    text: &[u8],
     ioc: &Ioc,
     opts: &Opts,
     thing: Thing,
 ) -> Result<String, OutOfMemory>
-    requires short { length text.now < 2 ^ 32 }
-    requires read { ioc_of text.now ≡ Ok ioc.now }
     ensures { IfOk result (λ x. Told p.now.tables ioc.now opts.now p.now.signals thing (string_bytes x)) }
 {
     let parts = p.parts();
-    let cost = cost_without(alloc, &parts.tables, text, ioc, opts, thing)?;
+    let cost = cost_without(alloc, &parts.tables, ioc, opts, thing)?;
     let words = words_of(
         alloc,
         parts.tables.parts(),
@@ -66,18 +62,15 @@ fn line_of_thing(
 pub(crate) fn helps(
     alloc: Global,
     p: &Problem,
-    text: &[u8],
     ioc: &Ioc,
     opts: &Opts,
 ) -> Result<Vec<u8>, OutOfMemory>
-    requires short { length text.now < 2 ^ 32 }
-    requires read { ioc_of text.now ≡ Ok ioc.now }
     ensures { IfOk result (λ x. Tells p.now.tables ioc.now opts.now p.now.signals (things p.now.tables ioc.now opts.now p.now.signals) x.items) }
 {
     let things = things(alloc, ioc, opts, p)?;
     let mut out = Vec::new(alloc);
     for thing in things.as_slice() {
-        let line = line_of_thing(alloc, p, text, ioc, opts, *thing)?;
+        let line = line_of_thing(alloc, p, ioc, opts, *thing)?;
         out.extend_from_slice(line.as_bytes())?;
     }
     Ok(out)

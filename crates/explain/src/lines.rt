@@ -1,10 +1,10 @@
 //! Lines of a project's text that hold something fixed.
-ghost use Rattle.std.specs.Prelude.{◌≡◌, find, option_copied};
+ghost use Rattle.std.specs.Prelude.{◌≡◌, find, map, option_copied};
 ghost use Rattle.res_model.specs.Placed.{rows_named};
 ghost use Rattle.res_model.specs.Signals.{rows_of, signal_named};
 ghost use Rattle.explain.specs.Things.{has_no_rows, lists_pin, pin_line, true_line};
 
-use ioc_text::{Ioc, Line, pin_number};
+use ioc_text::{Line, pin_number};
 use res_model::{PinUse, Signal, TableParts, TableSignal};
 
 /// The number of a line that says `true`.
@@ -32,12 +32,12 @@ fn lists_pin(pin: &[u8], line: &Line) -> bool
 
 /// The line that lists a pin.
 #[tactic(auto, unfolding(crate::specs::Things::pin_line))]
-pub(crate) fn pin_line<'i>(ioc: &'i Ioc, pin: &[u8]) -> Option<&'i Line>
-    ensures { option_copied result ≡ pin_line ioc.now pin.now }
+pub(crate) fn pin_line<'i>(lines: &[&'i Line], pin: &[u8]) -> Option<&'i Line>
+    ensures { option_copied result ≡ pin_line (map (λ line. line.now) lines.now) pin.now }
 {
-    for line in ioc.lines() {
-        if lists_pin(pin, line) {
-            return Some(line);
+    for line in lines {
+        if lists_pin(pin, *line) {
+            return Some(*line);
         }
     }
     None

@@ -1,5 +1,5 @@
 //! The things that could be given up, in their order.
-ghost use Rattle.std.specs.Prelude.{◌≡◌, ◌++◌, [], codes, length, IfOk, OnOk, option_copied, slice_get};
+ghost use Rattle.std.specs.Prelude.{◌≡◌, ◌++◌, [], codes, length, map, IfOk, OnOk, option_copied, slice_get};
 ghost use Rattle.std.specs.Option.{option_map_or};
 ghost use Rattle.ioc_text.specs.Lines.{line_at};
 ghost use Rattle.explain.specs.Things.{free_thing, keep_from, line_things, lock_at_home, lock_from, lock_key, lock_of, lock_thing, need_thing, option_things, pin_at_home, pin_of, pin_thing, things, things_below, true_line, wish_thing};
@@ -7,7 +7,7 @@ ghost use Rattle.explain.specs.Things.{free_thing, keep_from, line_things, lock_
 use crate::kinds::Thing;
 use crate::lines::{has_no_rows, pin_line, true_line};
 use explain_text::pin_name;
-use ioc_text::Ioc;
+use ioc_text::{Ioc, Line};
 use problem::Problem;
 use res_base::OutOfMemory;
 use res_model::{Free, Opts, Signal, TableParts};
@@ -201,16 +201,16 @@ fn put_locks(
 fn put_pin_at(
     out: &mut Vec<Thing>,
     t: &TableParts,
-    ioc: &Ioc,
+    lines: &[&Line],
     i: usize,
     home: Option<u8>,
 ) -> Result<(), OutOfMemory>
-    ensures { OnOk result (out.new.items ≡ out.old.items ++ pin_at_home t.now ioc.now i home) }
+    ensures { OnOk result (out.new.items ≡ out.old.items ++ pin_at_home t.now (map (λ line. line.now) lines.now) i home) }
 {
     let Some(home) = home else {
         return Ok(());
     };
-    match pin_line(ioc, pin_name(t, home).as_bytes()) {
+    match pin_line(lines, pin_name(t, home).as_bytes()) {
         None => {}
         Some(line) => out.push(Thing::Pin {
             signal: i,
@@ -224,14 +224,14 @@ fn put_pin_at(
 fn put_pin_of(
     out: &mut Vec<Thing>,
     t: &TableParts,
-    ioc: &Ioc,
+    lines: &[&Line],
     i: usize,
     signal: &Signal,
 ) -> Result<(), OutOfMemory>
-    ensures { OnOk result (out.new.items ≡ out.old.items ++ pin_of t.now ioc.now i signal.now) }
+    ensures { OnOk result (out.new.items ≡ out.old.items ++ pin_of t.now (map (λ line. line.now) lines.now) i signal.now) }
 {
     if has_no_rows(t, signal) {
-        put_pin_at(out, t, ioc, i, signal.home)
+        put_pin_at(out, t, lines, i, signal.home)
     } else {
         Ok(())
     }
@@ -241,15 +241,15 @@ fn put_pin_of(
 fn put_pin_if(
     out: &mut Vec<Thing>,
     t: &TableParts,
-    ioc: &Ioc,
+    lines: &[&Line],
     i: usize,
     signal: Option<&Signal>,
 ) -> Result<(), OutOfMemory>
-    ensures { OnOk result (out.new.items ≡ out.old.items ++ option_map_or (pin_of t.now ioc.now i) (option_copied signal.entry) []) }
+    ensures { OnOk result (out.new.items ≡ out.old.items ++ option_map_or (pin_of t.now (map (λ line. line.now) lines.now) i) (option_copied signal.entry) []) }
 {
     match signal {
         None => Ok(()),
-        Some(signal) => put_pin_of(out, t, ioc, i, signal),
+        Some(signal) => put_pin_of(out, t, lines, i, signal),
     }
 }
 
@@ -258,26 +258,26 @@ fn put_pin_if(
 fn put_pin(
     out: &mut Vec<Thing>,
     t: &TableParts,
-    ioc: &Ioc,
+    lines: &[&Line],
     signals: &[Signal],
     i: usize,
 ) -> Result<(), OutOfMemory>
-    ensures { OnOk result (out.new.items ≡ out.old.items ++ pin_thing t.now ioc.now signals.now i) }
+    ensures { OnOk result (out.new.items ≡ out.old.items ++ pin_thing t.now (map (λ line. line.now) lines.now) signals.now i) }
 {
-    put_pin_if(out, t, ioc, i, signal_at(signals, i))
+    put_pin_if(out, t, lines, i, signal_at(signals, i))
 }
 
 /// Appends the pin of each signal.
 fn put_pins(
     out: &mut Vec<Thing>,
     t: &TableParts,
-    ioc: &Ioc,
+    lines: &[&Line],
     signals: &[Signal],
 ) -> Result<(), OutOfMemory>
-    ensures { OnOk result (out.new.items ≡ out.old.items ++ things_below (length signals.now) (pin_thing t.now ioc.now signals.now)) }
+    ensures { OnOk result (out.new.items ≡ out.old.items ++ things_below (length signals.now) (pin_thing t.now (map (λ line. line.now) lines.now) signals.now)) }
 {
     for i in 0..signals.len() {
-        put_pin(out, t, ioc, signals, i)?;
+        put_pin(out, t, lines, signals, i)?;
     }
     Ok(())
 }
@@ -295,7 +295,8 @@ fn line_things(
     let mut out = Vec::new(alloc);
     put_keep(&mut out, keep_line(ioc))?;
     put_locks(alloc, &mut out, t, ioc, signals)?;
-    put_pins(&mut out, t, ioc, signals)?;
+    let lines = ioc.lines(alloc)?;
+    put_pins(&mut out, t, lines.as_slice(), signals)?;
     Ok(out)
 }
 

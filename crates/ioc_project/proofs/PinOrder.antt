@@ -22,20 +22,26 @@ seen_insert (e ∷ es) k line =
     seen_before (nat_cmp k e.0) ((k, line) ∷ e ∷ es) ((e.0, line) ∷ es) (e ∷ insert_entry nat_cmp es k line)
     ∙ ap (λ (more : List (ℕ × Line)). match_ordering (nat_cmp k e.0) ((k, line.now) ∷ seen (e ∷ es)) ((e.0, line.now) ∷ seen es) ((e.0, e.1.now) ∷ more)) (seen_insert es k line)
 
-module _ (entries next : List (ℕ × Bor Line)) (lines : List Line) (i : ℕ) (line : Line) (lt : i < length lines) (is : line ≡ get_or lines i line) where
-  first_and_more : drop i lines ≡ line ∷ drop (i + 1) lines
-  first_and_more = rw add-one (drop-cons lines i line lt ∙ ap (λ (l : Line). l ∷ drop (suc i) lines) (sym is))
+abbrev pub now : List (Bor Line) → List Line
+now lines = map (λ (l : Bor Line). l.now) lines
 
-  pub put : (k : ℕ) (lent : Bor Line) → pin_number line.key ≡ Some k → lent.now ≡ line → next ≡ insert_entry nat_cmp entries k lent
-      → numbered (seen next) (drop (i + 1) lines) ≡ numbered (seen entries) (drop i lines)
-  put k lent n same e =
-      ap (λ (es : List (ℕ × Line)). numbered es (drop (i + 1) lines))
-      (ap seen e ∙ seen_insert entries k lent ∙ ap (λ (l : Line). insert_entry nat_cmp (seen entries) k l) same ∙ ap (λ (o : Option ℕ). with_number (seen entries) o line) (sym n))
+module _ (entries next : List (ℕ × Bor Line)) (lines : List (Bor Line)) (i : ℕ) (line : Bor Line) (lt : i < length lines) (is : line ≡ get_or lines i line) where
+  at_place : drop i lines ≡ line ∷ drop (i + 1) lines
+  at_place = rw add-one (drop-cons lines i line lt ∙ ap (λ (l : Bor Line). l ∷ drop (suc i) lines) (sym is))
+
+  first_and_more : now (drop i lines) ≡ line.now ∷ now (drop (i + 1) lines)
+  first_and_more = ap now at_place
+
+  pub put : (k : ℕ) → pin_number line.now.key ≡ Some k → next ≡ insert_entry nat_cmp entries k line
+      → numbered (seen next) (now (drop (i + 1) lines)) ≡ numbered (seen entries) (now (drop i lines))
+  put k n e =
+      ap (λ (es : List (ℕ × Line)). numbered es (now (drop (i + 1) lines)))
+      (ap seen e ∙ seen_insert entries k line ∙ ap (λ (o : Option ℕ). with_number (seen entries) o line.now) (sym n))
       ∙ ap (numbered (seen entries)) (sym first_and_more)
 
-  pub passed : pin_number line.key ≡ None → next ≡ entries → numbered (seen next) (drop (i + 1) lines) ≡ numbered (seen entries) (drop i lines)
+  pub passed : pin_number line.now.key ≡ None → next ≡ entries → numbered (seen next) (now (drop (i + 1) lines)) ≡ numbered (seen entries) (now (drop i lines))
   passed n e =
-      ap (λ (es : List (ℕ × Line)). numbered es (drop (i + 1) lines)) (ap seen e ∙ ap (λ (o : Option ℕ). with_number (seen entries) o line) (sym n))
+      ap (λ (es : List (ℕ × Line)). numbered es (now (drop (i + 1) lines))) (ap seen e ∙ ap (λ (o : Option ℕ). with_number (seen entries) o line.now) (sym n))
       ∙ ap (numbered (seen entries)) (sym first_and_more)
 
 pub lines_seen : (entries : List (ℕ × Bor Line)) → map (λ (l : Bor Line). l.now) (map (λ (e : ℕ × Bor Line). e.1) entries) ≡ map (λ (e : ℕ × Line). e.1) (seen entries)

@@ -10,13 +10,13 @@ use std::alloc::{AllocError, Global};
 use std::collections::BTreeMap;
 
 /// The lines of keys `Mcu.Pin<k>`, by k.
-fn numbered(alloc: Global, lines: &[Line]) -> Result<BTreeMap<u64, &Line>, OutOfMemory>
-    ensures { IfOk result (λ m. seen m.entries ≡ numbered [] lines.now) }
+fn numbered<'l>(alloc: Global, lines: &[&'l Line]) -> Result<BTreeMap<u64, &'l Line>, OutOfMemory>
+    ensures { IfOk result (λ m. seen m.entries ≡ numbered [] (map (λ line. line.now) lines.now)) }
 {
     let mut placed = BTreeMap::new(alloc);
     for line in lines {
         if let Some(k) = pin_number(line.key.as_slice()) {
-            placed.insert(k, line)?;
+            placed.insert(k, *line)?;
         }
     }
     Ok(placed)
@@ -36,7 +36,8 @@ fn in_order<'l>(
 pub(crate) fn pin_lines(alloc: Global, ioc: &Ioc) -> Result<Vec<&Line>, OutOfMemory>
     ensures { IfOk result (λ v. map (λ line. line.now) v.items ≡ pin_lines ioc.now) }
 {
-    let placed = numbered(alloc, ioc.lines())?;
-    let lines = in_order(alloc, &placed)?;
-    Ok(lines)
+    let lines = ioc.lines(alloc)?;
+    let placed = numbered(alloc, lines.as_slice())?;
+    let pins = in_order(alloc, &placed)?;
+    Ok(pins)
 }

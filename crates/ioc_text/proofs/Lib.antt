@@ -1,5 +1,6 @@
 pub mod Bytewise
 mod Cuts
 mod Once
+mod OutLemmas
 mod Places
 mod Orders

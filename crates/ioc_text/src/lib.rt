@@ -8,6 +8,7 @@ mod keys;
 mod line;
 mod lines;
 mod marks;
+mod outs;
 mod read;
 
 pub use escapes::{equals_at, undo_into};

@@ -1,5 +1,5 @@
 //! An index of lines by their keys: marks that are sorted once.
-ghost use Rattle.std.specs.Prelude.{◌≡◌, ◌<◌, ◌∷◌, None, MatchOption, IfOk, length, slice_get};
+ghost use Rattle.std.specs.Prelude.{◌≡◌, ◌<◌, ◌∷◌, None, MatchOption, IfOk, length, option_copied, slice_get};
 ghost use Rattle.std.specs.Cmp.Lexicographic.{slice_cmp};
 ghost use Rattle.std.specs.Ordering.{nat_cmp};
 ghost use Rattle.std.specs.Str.{bytes_eq};
@@ -114,7 +114,7 @@ fn order_to(lines: &[Line], mark: &Mark, sum: u64, key: &[u8]) -> Ordering
 }
 
 /// The place of the line that has this key.
-pub(crate) fn place_of(lines: &[Line], marks: &[Mark], key: &[u8]) -> Option<usize>
+fn place_of(lines: &[Line], marks: &[Mark], key: &[u8]) -> Option<usize>
     requires index { IsIndex marks.now lines.now }
     requires once { IsEachOnce lines.now }
     ensures { MatchOption result (line_at lines.now key.now ≡ None) (λ place. (place < length lines.now) × (line_at lines.now key.now ≡ slice_get lines.now place)) }
@@ -124,4 +124,14 @@ pub(crate) fn place_of(lines: &[Line], marks: &[Mark], key: &[u8]) -> Option<usi
         Ok(at) => Some(marks[at].place),
         Err(_) => None,
     }
+}
+
+/// The line that has this key.
+pub(crate) fn line_of<'l>(lines: &'l [Line], marks: &[Mark], key: &[u8]) -> Option<&'l Line>
+    requires index { IsIndex marks.now lines.now }
+    requires once { IsEachOnce lines.now }
+    ensures { option_copied result ≡ line_at lines.now key.now }
+{
+    let place = place_of(lines, marks, key)?;
+    Some(&lines[place])
 }

@@ -10,7 +10,7 @@ use Rattle.ioc_text.specs.Lines.{equals_at, divided, ioc_after, is_named, is_qui
 use Rattle.ioc_text.specs.declared.fault.IocFault.{IocFault}
 use Rattle.ioc_text.specs.declared.fault.IocFault.TheVariants.{LongLine, TwiceKey}
 use Rattle.ioc_text.specs.declared.line.Line.{Line}
-use Rattle.ioc_without.specs.Without.{without}
+use Rattle.ioc_text.specs.Without.{without}
 
 abbrev Read : Type 0
 Read = Result (List Line) IocFault

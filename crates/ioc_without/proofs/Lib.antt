@@ -1,4 +1,3 @@
 pub mod CutLemmas
 pub mod LeftLemmas
-pub mod ReadLemmas
 pub mod StartLemmas

@@ -9,8 +9,8 @@ use Rattle.std.proofs.lemmas.List.{take-append-drop, take-set, drop-set, length-
 use Rattle.std.proofs.lemmas.List.Splits.{length-slice_split}
 use Rattle.ioc_text.specs.Lines.{ioc_after, ioc_of, line_of}
 use Rattle.ioc_text.specs.declared.line.Line.{Line}
-use Rattle.ioc_without.specs.Starts.{AreWhole, IsStart, SaysNothing, empty, ended, none, past}
-use Rattle.ioc_without.specs.Without.{without}
+use Rattle.ioc_without.specs.Starts.{AreWhole, IsStart, IsWithout, SaysNothing, empty, ended, none, past, remarked, same}
+use Rattle.ioc_text.specs.Without.{without}
 use Rattle.ioc_without.proofs.CutLemmas.{First, first_of, lines_before, lines_cut, split_cut}
 use Rattle.ioc_without.proofs.LeftLemmas.{below_after, kept_after, left_out, quiet, remark}
 
@@ -131,3 +131,7 @@ nothing_left text number ioc (ended whole count) h = all_below text number ioc (
 nothing_left text number ioc (empty at inside whole count byte) h =
     let is : text ≡ take at text ++ 10 ∷ drop (at + 1) text = text_is text at inside ∙ ap (λ (b : ℕ). take at text ++ b ∷ drop (at + 1) text) byte in
     empty_line number (drop (at + 1) text) ioc (take at text) (front_of (take at text) whole) count (subst (λ (t : List ℕ). ioc_of t ≡ Ok ioc) is h)
+
+pub left_is_read : (text left : List ℕ) (number : ℕ) (ioc : List Line) → IsWithout text number left → ioc_of text ≡ Ok ioc → ioc_of left ≡ Ok (without number ioc)
+left_is_read text left number ioc (remarked at start is) h = subst (λ (t : List ℕ). ioc_of t ≡ Ok (without number ioc)) (sym is) (read_left text number at ioc start h)
+left_is_read text left number ioc (same nothing is) h = ap ioc_of is ∙ h ∙ ap Ok (sym (nothing_left text number ioc nothing h))

@@ -1,2 +1,2 @@
+pub mod Laws
 pub mod Starts
-pub mod Without

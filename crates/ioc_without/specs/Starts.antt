@@ -1,5 +1,5 @@
--- Internal: where a line of a text begins.
-use Rattle.std.specs.Prelude.{◌≡◌, ◌≢◌, ◌⊎◌, ℕ, ◌+◌, ◌<◌, ◌==◌, List, [], ◌∷◌, ◌++◌, count_by, length, slice_index, take}
+-- Where a line of a text begins, and a text without one of its lines.
+use Rattle.std.specs.Prelude.{◌≡◌, ◌≢◌, ◌⊎◌, ℕ, ◌+◌, ◌<◌, ◌==◌, List, [], ◌∷◌, ◌++◌, count_by, length, slice_index, slice_set, take}
 
 -- a list of whole lines
 abbrev pub AreWhole : List ℕ → Type 0
@@ -18,3 +18,8 @@ pub data SaysNothing (text : List ℕ) (number : ℕ) : Type 0 where
   past : count_by (λ b. b == 10) text + 1 < number → SaysNothing text number
   ended : AreWhole text → count_by (λ b. b == 10) text + 1 ≡ number → SaysNothing text number
   empty : (at : ℕ) → at < length text → AreWhole (take at text) → count_by (λ b. b == 10) (take at text) + 1 ≡ number → slice_index text at ≡ 10 → SaysNothing text number
+
+-- the text without the line of a number: its first byte is made a `#`, so that the line is a remark and the others keep their numbers
+pub data IsWithout (text : List ℕ) (number : ℕ) (left : List ℕ) : Type 0 where
+  remarked : (at : ℕ) → IsStart text number at → left ≡ slice_set text at 35 → IsWithout text number left
+  same : SaysNothing text number → left ≡ text → IsWithout text number left

@@ -1,11 +1,8 @@
-//! The lines that are left without one of them.
-ghost use Rattle.std.specs.Prelude.{◌≡◌, ◌<◌, ◌^◌, List, Ok, length, IfErr, IfOk, slice_set};
-ghost use Rattle.ioc_text.specs.Lines.{ioc_of};
-ghost use Rattle.ioc_text.specs.declared.line.Line.{Line};
-ghost use Rattle.ioc_without.specs.Without.{without};
+//! A text without one of its lines.
+ghost use Rattle.std.specs.Prelude.{◌≡◌, ◌<◌, length, IfOk, slice_set};
+ghost use Rattle.ioc_without.specs.Starts.{IsWithout};
 
 use crate::starts::line_start;
-use ioc_text::{Ioc, IocFault, read_ioc};
 use res_base::OutOfMemory;
 use std::alloc::Global;
 
@@ -19,19 +16,20 @@ fn remarked(alloc: Global, text: &[u8], at: usize) -> Result<Vec<u8>, OutOfMemor
     Ok(left)
 }
 
-/// The lines with named keys of a text that is read, but the one of this number.
-///
-/// The line is made a remark, so that the others keep their numbers. Only want of memory makes it fail.
-pub fn read_without(alloc: Global, text: &[u8], number: u32) -> Result<Ioc, IocFault>
-    requires { length text.now < 2 ^ 32 }
-    ensures left { IfOk result (λ left. (ioc : List Line) → ioc_of text.now ≡ Ok ioc → left ≡ without number ioc) }
-    ensures fault { IfErr result (λ fault. (ioc : List Line) → ioc_of text.now ≡ Ok ioc → fault ≡ IocFault.Memory) }
+/// The same text.
+fn copied(alloc: Global, text: &[u8]) -> Result<Vec<u8>, OutOfMemory>
+    ensures { IfOk result (λ x. x.items ≡ text.now) }
+{
+    let same = Vec::from_slice(alloc, text)?;
+    Ok(same)
+}
+
+/// A text without the line of this number. The line is made a remark, so that the others keep their numbers.
+pub fn text_without(alloc: Global, text: &[u8], number: u32) -> Result<Vec<u8>, OutOfMemory>
+    ensures { IfOk result (λ left. IsWithout text.now number left.items) }
 {
     match line_start(text, number as usize) {
-        None => read_ioc(alloc, text),
-        Some(at) => {
-            let left = remarked(alloc, text, at)?;
-            read_ioc(alloc, left.as_slice())
-        }
+        None => copied(alloc, text),
+        Some(at) => remarked(alloc, text, at),
     }
 }

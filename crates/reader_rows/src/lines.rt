@@ -1,5 +1,6 @@
 //! Lines, keys and escapes, and which faulty line is told.
 use ioc_text::{Ioc, IocFault, read_ioc};
+use ioc_without::text_without;
 use std::alloc::{AllocError, Global};
 use std::process::Abort;
 use std::test::Fail;
@@ -15,7 +16,8 @@ fn told(alloc: Global, read: &Result<Ioc, IocFault>) -> Result<String, AllocErro
     let mut out = String::new(alloc);
     match read {
         Ok(ioc) => {
-            for line in ioc.lines() {
+            let lines = ioc.lines(alloc)?;
+            for line in lines.as_slice() {
                 let (key, value) = (text_of(line.key.as_slice()), text_of(line.value.as_slice()));
                 out.push_str(format!(in alloc; "{} {key}={value}|", line.number)?.as_str())?;
             }
@@ -156,5 +158,60 @@ fn keys_are_looked_up(rt: HostRuntime) -> Result<(), Fail> {
     assert_eq!(rt; number_of(&ioc, b"PB6.Signal"), Some(3));
     assert_eq!(rt; number_of(&ioc, b"Mcu.Pin1"), None);
     assert_eq!(rt; number_of(&ioc, b""), None);
+    Ok(())
+}
+
+#[test]
+fn lines_are_left_out(rt: HostRuntime) -> Result<(), Fail> {
+    let ioc = match read_ioc(rt.alloc(), B.as_bytes()) {
+        Ok(ioc) => ioc,
+        Err(fault) => panic!(rt; "{fault:?}"),
+    };
+    let left = ioc.without(rt.alloc(), 2)?;
+    assert_eq!(rt; number_of(&left, b"Mcu.Name"), Some(1));
+    assert_eq!(rt; number_of(&left, b"Mcu.Pin0"), None);
+    assert_eq!(rt; number_of(&left, b"PB6.Signal"), Some(3));
+    let fewer = left.without(rt.alloc(), 3)?;
+    assert_eq!(rt; number_of(&fewer, b"Mcu.Name"), Some(1));
+    assert_eq!(rt; number_of(&fewer, b"Mcu.Pin0"), None);
+    assert_eq!(rt; number_of(&fewer, b"PB6.Signal"), None);
+    assert_eq!(rt; number_of(&ioc, b"Mcu.Pin0"), Some(2));
+    Ok(())
+}
+
+/// The lines that are left without one, and those of the text without it.
+fn leaves(
+    rt: &(impl Abort + AllocGlobal),
+    text: &[u8],
+    number: u32,
+    want: &str,
+) -> Result<(), Fail> {
+    assert!(rt; text.len() < 4294967296);
+    let ioc = read_ioc(rt.alloc(), text)?;
+    let left = ioc.without(rt.alloc(), number)?;
+    let found = told(rt.alloc(), &Ok(left))?;
+    assert_eq!(rt; found.as_str(), want, "without {number}");
+    let other = text_without(rt.alloc(), text, number)?;
+    reads(rt, other.as_slice(), want)?;
+    Ok(())
+}
+
+#[test]
+fn a_text_without_a_line_says_the_others(rt: HostRuntime) -> Result<(), Fail> {
+    let text = b"#c\nMcu.Name=A\n\nPB6.Signal=x\r\nq=1\nMcu.Pin0=PB6";
+    let all = "2 Mcu.Name=A|4 PB6.Signal=x|6 Mcu.Pin0=PB6|";
+    let cases = [
+        (0, all),
+        (1, all),
+        (2, "4 PB6.Signal=x|6 Mcu.Pin0=PB6|"),
+        (3, all),
+        (4, "2 Mcu.Name=A|6 Mcu.Pin0=PB6|"),
+        (5, all),
+        (6, "2 Mcu.Name=A|4 PB6.Signal=x|"),
+        (7, all),
+    ];
+    for (number, want) in cases {
+        leaves(&rt, text, number, want)?;
+    }
     Ok(())
 }

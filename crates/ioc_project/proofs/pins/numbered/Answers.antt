@@ -8,8 +8,7 @@ pub loop-line-preserved : goal.loop-line-preserved
 loop-line-preserved c = elim c.match-pin_number.branch [
   | in-Some+in_ok-insert w ↦
       put c.loop-line.placed.entries c.match-pin_number.placed.entries c.args.lines.now c.loop-line.line-index c.line-item.result c.loop-line-test.true c.line-item.is w.in-Some.k
-      _
-      (ap (λ (k : List ℕ). pin_number k) (sym c.as_slice.ensures) ∙ sym c.pin_number.ensures ∙ w.in-Some.is) refl (ap (λ m. m.entries) w.placed-is ∙ w.in_ok-insert.ensures.entries) ∙ c.loop-line.invariant
+      (ap (λ (k : List ℕ). pin_number k) (sym c.as_slice.ensures) ∙ sym c.pin_number.ensures ∙ w.in-Some.is) (ap (λ m. m.entries) w.placed-is ∙ w.in_ok-insert.ensures.entries) ∙ c.loop-line.invariant
   | in_default w ↦
       passed c.loop-line.placed.entries c.match-pin_number.placed.entries c.args.lines.now c.loop-line.line-index c.line-item.result c.loop-line-test.true c.line-item.is
       (ap (λ (k : List ℕ). pin_number k) (sym c.as_slice.ensures) ∙ sym c.pin_number.ensures ∙ w.in_default.is) (ap (λ m. m.entries) w.placed-is) ∙ c.loop-line.invariant
