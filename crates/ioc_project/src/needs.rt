@@ -1,14 +1,12 @@
 //! The needs, which stand behind the signals.
 ghost use Rattle.std.specs.Prelude.{◌≡◌, ◌≤◌, ◌+◌, length, IfOk};
-ghost use Rattle.res_model.specs.Signals.{signal_named};
 ghost use Rattle.ioc_project.specs.Project.{capped, need_of, known_need, needs_from, few};
 ghost use Rattle.ioc_project.specs.ProjectFaults.{Gives, Tells};
 ghost use Rattle.res_model.specs.Steps.{with_front};
 
 use crate::fault::ProjectFault;
-use crate::signals::signal_named;
 use res_base::Text;
-use res_model::{Pull, Signal, Speed, TableParts};
+use res_model::{Pull, Signal, Speed, Tables};
 use std::alloc::Global;
 
 /// The greatest number of signals and needs together.
@@ -27,16 +25,11 @@ fn capped(number: usize) -> u32
 
 /// The need of this number and name.
 #[tactic(auto, unfolding(crate::specs::Project::need_of))]
-fn need_of(
-    alloc: Global,
-    t: &TableParts,
-    number: usize,
-    name: &Text,
-) -> Result<Signal, ProjectFault>
+fn need_of(alloc: Global, t: &Tables, number: usize, name: &Text) -> Result<Signal, ProjectFault>
     ensures { Gives (λ need. need) result (need_of t.now number name.now) }
 {
     let need = capped(number);
-    let Some(signal) = signal_named(t, name.as_str().as_bytes()) else {
+    let Some(signal) = t.signal_named(name.as_str().as_bytes()) else {
         return Err(ProjectFault::UnknownNeed { need });
     };
     if signal.at.len() == 0 {
@@ -55,7 +48,7 @@ fn need_of(
 /// Appends the needs of these names.
 pub(crate) fn push_needs(
     alloc: Global,
-    t: &TableParts,
+    t: &Tables,
     signals: &mut Vec<Signal>,
     names: &[Text],
 ) -> Result<(), ProjectFault>

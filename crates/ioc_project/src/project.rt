@@ -1,5 +1,5 @@
 //! A project, step by step.
-ghost use Rattle.std.specs.Prelude.{◌≤◌, length, IfOk};
+ghost use Rattle.std.specs.Prelude.{IfOk};
 ghost use Rattle.ioc_project.specs.Read.{IsRead};
 ghost use Rattle.ioc_project.specs.Project.{project_of};
 ghost use Rattle.ioc_project.specs.ProjectFaults.{Gives};
@@ -14,7 +14,7 @@ use crate::pins::pin_lines;
 use crate::signals::push_signals;
 use ioc_text::Ioc;
 use res_base::Items;
-use res_model::{Opts, Project, TableParts, Tables};
+use res_model::{Opts, Project, Tables};
 use std::alloc::Global;
 
 /// Reads the project that the lines tell under a table, or its first refusal.
@@ -30,23 +30,22 @@ pub fn read_project(
     ensures project { Gives (λ project. project) result (project_of t.now ioc.now opts.now clocks) }
     ensures keeps { IfOk result (IsRead t.now opts.now clocks) }
 {
-    t.keeps_rules();
-    project_under(alloc, t.parts(), ioc, opts, clocks)
+    project_under(alloc, t, ioc, opts, clocks)
 }
 
-/// The same under what a table says.
+/// The same, but for what it keeps.
 #[tactic(auto, unfolding(crate::specs::Project::project_of))]
-pub(crate) fn project_under(
+fn project_under(
     alloc: Global,
-    t: &TableParts,
+    t: &Tables,
     ioc: &Ioc,
     opts: &Opts,
     clocks: bool,
 ) -> Result<Project, ProjectFault>
-    requires { length t.now.pins ≤ 144 }
     ensures { Gives (λ project. project) result (project_of t.now ioc.now opts.now clocks) }
 {
-    part_of(t, ioc)?;
+    let parts = t.parts();
+    part_of(parts, ioc)?;
     let kept = kept_of(ioc)?;
     let pins = pin_lines(alloc, ioc)?;
     let mut signals = Vec::new(alloc);
@@ -60,10 +59,10 @@ pub(crate) fn project_under(
     )?;
     push_needs(alloc, t, &mut signals, opts.needs.as_slice())?;
     few(signals.as_slice())?;
-    let hse_hz = hse_of(t, ioc)?;
-    let clock = homes_of(t, ioc)?;
-    in_domains(t, clocks && fixes_clock(opts.free), &clock)?;
-    let marks = marks_of(alloc, t, ioc, pins.as_slice())?;
+    let hse_hz = hse_of(parts, ioc)?;
+    let clock = homes_of(parts, ioc)?;
+    in_domains(parts, clocks && fixes_clock(opts.free), &clock)?;
+    let marks = marks_of(alloc, parts, ioc, pins.as_slice())?;
     Ok(Project {
         signals: Items::of(signals),
         clock,

@@ -1,10 +1,8 @@
 //! The signals of the pins, with their homes.
-ghost use Rattle.std.specs.Prelude.{◌≡◌, ◌==◌, ◌++◌, ◌<◌, ◌≤◌, false, codes, length, map, find, position, IfOk, IfSome};
+ghost use Rattle.std.specs.Prelude.{◌≡◌, ◌==◌, ◌++◌, false, codes, map, IfOk};
 ghost use Rattle.std.specs.List.{list_any, starts_with};
-ghost use Rattle.std.specs.Option.{option_copied};
 ghost use Rattle.ioc_text.specs.Lines.{line_at};
-ghost use Rattle.res_model.specs.Signals.{signal_named};
-ghost use Rattle.ioc_project.specs.Project.{truth_of, pull_of, speed_of, value_or, is_virtual, pin_line_at, is_some_of, is_taken, place_of, place_for, signal_given, name_given, is_misplaced, candidate, signal_of, with_pin, signals_after};
+ghost use Rattle.ioc_project.specs.Project.{truth_of, pull_of, speed_of, value_or, is_virtual, pin_line_at, is_some_of, is_taken, place_for, signal_given, name_given, is_misplaced, candidate, signal_of, with_pin, signals_after};
 ghost use Rattle.ioc_project.specs.ProjectFaults.{Gives, Tells};
 ghost use Rattle.res_model.specs.declared.project.Pull.TheVariants.{None as NoPull};
 ghost use Rattle.res_model.specs.declared.project.Speed.TheVariants.{Low};
@@ -14,7 +12,7 @@ use crate::fault::ProjectFault;
 use crate::values::{pull_of, speed_of, truth_at};
 use ioc_text::{Ioc, Line};
 use res_base::{OutOfMemory, Text};
-use res_model::{PinUse, Pull, Signal, Speed, TableParts, TableSignal};
+use res_model::{PinUse, Pull, Signal, Speed, TableSignal, Tables};
 use std::alloc::Global;
 
 /// Whether a pin holds no place.
@@ -31,29 +29,6 @@ pub(crate) fn pin_key(alloc: Global, pin: &[u8], what: &[u8]) -> Result<Vec<u8>,
     let mut key = Vec::from_slice(alloc, pin)?;
     key.extend_from_slice(what)?;
     Ok(key)
-}
-
-/// The place of a pin in the table.
-#[tactic(auto, unfolding(crate::specs::Project::place_of))]
-fn place_of(t: &TableParts, name: &[u8]) -> Option<usize>
-    ensures place { result ≡ place_of t.now name.now }
-    ensures within { IfSome result (λ place. place < length t.now.pins) }
-{
-    t.pins
-        .as_slice()
-        .iter()
-        .position(|pin| pin.name.as_str().as_bytes() == name)
-}
-
-/// The table's signal of a name.
-#[tactic(auto, unfolding(res_model::specs::Signals::signal_named))]
-pub(crate) fn signal_named<'t>(t: &'t TableParts, name: &[u8]) -> Option<&'t TableSignal>
-    ensures { option_copied result ≡ signal_named t.now name.now }
-{
-    t.signals
-        .as_slice()
-        .iter()
-        .find(|signal| signal.name.as_str().as_bytes() == name)
 }
 
 fn is_home(signal: &Signal, place: u8) -> bool
@@ -74,15 +49,13 @@ fn is_taken(signals: &[Signal], place: u8) -> bool
 }
 
 /// The place of a pin's line, where none of the signals before is.
-#[tactic(auto, unfolding(crate::specs::Project::place_for))]
-fn place_for(t: &TableParts, before: &[Signal], line: &Line) -> Result<u8, ProjectFault>
-    requires { length t.now.pins ≤ 144 }
+#[tactic(auto, unfolding(crate::specs::Project::place_for, crate::specs::Project::place_of, res_model::specs::PinNames::place))]
+fn place_for(t: &Tables, before: &[Signal], line: &Line) -> Result<u8, ProjectFault>
     ensures { Tells (λ place. place) result (place_for t.now before.now line.now) }
 {
-    let Some(place) = place_of(t, line.value.as_slice()) else {
+    let Some(place) = t.pin_of(line.value.as_slice()) else {
         return Err(ProjectFault::UnknownPin { line: line.number });
     };
-    let place = place as u8;
     if is_taken(before, place) {
         return Err(ProjectFault::BadValue { line: line.number });
     }
@@ -92,7 +65,7 @@ fn place_for(t: &TableParts, before: &[Signal], line: &Line) -> Result<u8, Proje
 /// The table's signal that a pin's line names, with the line's number; none for a pin that is held.
 fn signal_given<'t>(
     alloc: Global,
-    t: &'t TableParts,
+    t: &'t Tables,
     ioc: &Ioc,
     pin: &[u8],
 ) -> Result<Option<(u32, &'t TableSignal)>, ProjectFault>
@@ -102,7 +75,7 @@ fn signal_given<'t>(
     let Some(line) = ioc.get(key.as_slice()) else {
         return Ok(None);
     };
-    match signal_named(t, line.value.as_slice()) {
+    match t.signal_named(line.value.as_slice()) {
         None => Err(ProjectFault::UnknownSignal { line: line.number }),
         Some(signal) => Ok(Some((line.number, signal))),
     }
@@ -179,13 +152,12 @@ fn candidate(
 #[tactic(auto, unfolding(crate::specs::Project::signal_of))]
 fn signal_of(
     alloc: Global,
-    t: &TableParts,
+    t: &Tables,
     ioc: &Ioc,
     kept: bool,
     before: &[Signal],
     line: &Line,
 ) -> Result<Signal, ProjectFault>
-    requires { length t.now.pins ≤ 144 }
     ensures { Gives (λ signal. signal) result (signal_of t.now ioc.now kept before.now line.now) }
 {
     let pin = line.value.as_slice();
@@ -209,13 +181,12 @@ fn signal_of(
 #[tactic(auto, unfolding(crate::specs::Project::with_pin))]
 fn push_signal(
     alloc: Global,
-    t: &TableParts,
+    t: &Tables,
     ioc: &Ioc,
     kept: bool,
     signals: &mut Vec<Signal>,
     line: &Line,
 ) -> Result<(), ProjectFault>
-    requires { length t.now.pins ≤ 144 }
     ensures { Gives (λ _. signals.new.items) result (with_pin t.now ioc.now kept signals.old.items line.now) }
 {
     if is_virtual(line.value.as_slice()) {
@@ -229,13 +200,12 @@ fn push_signal(
 /// Appends the signals of the pins' lines.
 pub(crate) fn push_signals(
     alloc: Global,
-    t: &TableParts,
+    t: &Tables,
     ioc: &Ioc,
     kept: bool,
     signals: &mut Vec<Signal>,
     pins: &[&Line],
 ) -> Result<(), ProjectFault>
-    requires { length t.now.pins ≤ 144 }
     ensures { Gives (λ _. signals.new.items) result (signals_after t.now ioc.now kept signals.old.items (map (λ line. line.now) pins.now)) }
 {
     for line in pins {
