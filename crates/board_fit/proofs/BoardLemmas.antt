@@ -117,11 +117,11 @@ module _ (t : TableParts) (p : Project) (opts : Opts) (board : IsBoard t p opts)
   few_uses = omega (arith, values_many t p.signals, board.few)
 
   pub clocks_positions : HasPositions (clock_shape t p opts Whole)
-  clocks_positions = front (clock_shape t p opts Whole) (pin_variables t p.signals) whole_positions
+  clocks_positions = prefix (clock_shape t p opts Whole) (pin_variables t p.signals) whole_positions
     where
-      front : (vs ws : List VarShape) → HasPositions (vs ++ ws) → HasPositions vs
-      front [] ws h = tt
-      front (v ∷ vs) ws h = (h.0, front vs ws h.1)
+      prefix : (vs ws : List VarShape) → HasPositions (vs ++ ws) → HasPositions vs
+      prefix [] ws h = tt
+      prefix (v ∷ vs) ws h = (h.0, prefix vs ws h.1)
 
   pub clocks_box : IsBox (clock_shape t p opts Whole) (whole (clock_shape t p opts Whole))
   clocks_box = whole_box (clock_shape t p opts Whole) clocks_positions

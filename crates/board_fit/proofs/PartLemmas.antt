@@ -230,7 +230,7 @@ module _ (t : TableParts) (p : Project) (opts : Opts) (board : IsBoard t p opts)
     pub choice_alone : (k : List ℕ) → IsChoice (clocks_of t p opts at).shape k → (ks : List ℕ) × IsChoice clocks ks × (k ≡ alone p ks)
     choice_alone k choice =
         let r : IsJoined clocks (alone_variables (length p.signals)) k = joins.choice_parts clocks (alone_variables (length p.signals)) k (subst (λ (vs : List VarShape). IsChoice vs k) clocks_shape choice) in
-        (r.front, r.front_choice, r.is ∙ ap (λ (l : List ℕ). r.front ++ l) (only_firsts (length p.signals) r.back r.back_choice))
+        (r.prefix, r.prefix_choice, r.is ∙ ap (λ (l : List ℕ). r.prefix ++ l) (only_firsts (length p.signals) r.suffix r.suffix_choice))
 
     firsts_least : meets (pins_of t p opts) at ≡ true → IsLeast (alone_variables (length p.signals)) (λ ys. meets (pins_of t p opts) at) (firsts (length p.signals))
     firsts_least ok = record {
@@ -244,7 +244,7 @@ module _ (t : TableParts) (p : Project) (opts : Opts) (board : IsBoard t p opts)
     -- the least clocks beside a placement that meets are the least clocks
     pub least_clocks : (ks : List ℕ) → IsChoice clocks ks → IsLeast (clocks_of t p opts at).shape (meets (clocks_of t p opts at)) (alone p ks) → IsLeast clocks met_clocks ks
     least_clocks ks choice l =
-        joins.least_front clocks (alone_variables (length p.signals)) (meets (clocks_of t p opts at)) met_clocks (λ ys. meets (pins_of t p opts) at) fixed_parts ks (firsts (length p.signals)) choice (firsts_choice (length p.signals))
+        joins.least_prefix clocks (alone_variables (length p.signals)) (meets (clocks_of t p opts at)) met_clocks (λ ys. meets (pins_of t p opts) at) fixed_parts ks (firsts (length p.signals)) choice (firsts_choice (length p.signals))
         (subst (λ (vs : List VarShape). IsLeast vs (meets (clocks_of t p opts at)) (alone p ks)) clocks_shape l)
 
     pub clocks_least : (ks : List ℕ) → meets (pins_of t p opts) at ≡ true → IsLeast clocks met_clocks ks → IsLeast (clocks_of t p opts at).shape (meets (clocks_of t p opts at)) (alone p ks)
@@ -263,10 +263,10 @@ module _ (t : TableParts) (p : Project) (opts : Opts) (board : IsBoard t p opts)
     pub parts_of_least : (ks : List ℕ) → IsChoice clocks ks → IsLeast (whole_of t p opts).shape (meets (whole_of t p opts)) (joined ks at) → IsLeast (pins_of t p opts).shape (meets (pins_of t p opts)) at × IsLeast (clocks_of t p opts at).shape (meets (clocks_of t p opts at)) (alone p ks)
     parts_of_least ks choice l =
         let low = subst (λ (vs : List VarShape). IsLeast vs (meets (whole_of t p opts)) (joined ks at)) whole_shape l in
-        let back : IsLeast pins (meets (pins_of t p opts)) at = joins.least_back clocks pins (meets (whole_of t p opts)) met_clocks (meets (pins_of t p opts)) whole_parts ks at choice placement_of low in
-        let front : IsLeast clocks met_clocks ks = joins.least_front clocks pins (meets (whole_of t p opts)) met_clocks (meets (pins_of t p opts)) whole_parts ks at choice placement_of low in (
-          subst (λ (vs : List VarShape). IsLeast vs (meets (pins_of t p opts)) at) (sym pins_shape) back,
-          clocks_least ks back.is_legal front,
+        let suffix : IsLeast pins (meets (pins_of t p opts)) at = joins.least_suffix clocks pins (meets (whole_of t p opts)) met_clocks (meets (pins_of t p opts)) whole_parts ks at choice placement_of low in
+        let prefix : IsLeast clocks met_clocks ks = joins.least_prefix clocks pins (meets (whole_of t p opts)) met_clocks (meets (pins_of t p opts)) whole_parts ks at choice placement_of low in (
+          subst (λ (vs : List VarShape). IsLeast vs (meets (pins_of t p opts)) at) (sym pins_shape) suffix,
+          clocks_least ks suffix.is_legal prefix,
         )
 
     -- ---- none
@@ -274,18 +274,18 @@ module _ (t : TableParts) (p : Project) (opts : Opts) (board : IsBoard t p opts)
     pub none_beside : meets (pins_of t p opts) at ≡ true → NoneLegal (clocks_of t p opts at).shape (meets (clocks_of t p opts at)) → NoneLegal (whole_of t p opts).shape (meets (whole_of t p opts))
     none_beside ok none =
         let no_clocks : NoneLegal clocks met_clocks =
-        joins.no_front clocks (alone_variables (length p.signals)) (meets (clocks_of t p opts at)) met_clocks (λ ys. meets (pins_of t p opts) at) fixed_parts (firsts (length p.signals)) (firsts_choice (length p.signals)) ok
+        joins.no_prefix clocks (alone_variables (length p.signals)) (meets (clocks_of t p opts at)) met_clocks (λ ys. meets (pins_of t p opts) at) fixed_parts (firsts (length p.signals)) (firsts_choice (length p.signals)) ok
         (subst (λ (vs : List VarShape). NoneLegal vs (meets (clocks_of t p opts at))) clocks_shape none) in
         subst (λ (vs : List VarShape). NoneLegal vs (meets (whole_of t p opts))) (sym whole_shape)
-        (joins.none_front clocks pins (meets (whole_of t p opts)) met_clocks (meets (pins_of t p opts)) whole_parts no_clocks)
+        (joins.none_prefix clocks pins (meets (whole_of t p opts)) met_clocks (meets (pins_of t p opts)) whole_parts no_clocks)
 
     pub none_of_whole : meets (pins_of t p opts) at ≡ true → NoneLegal (whole_of t p opts).shape (meets (whole_of t p opts)) → NoneLegal (clocks_of t p opts at).shape (meets (clocks_of t p opts at))
     none_of_whole ok none =
         let no_clocks : NoneLegal clocks met_clocks =
-        joins.no_front clocks pins (meets (whole_of t p opts)) met_clocks (meets (pins_of t p opts)) whole_parts at placement_of ok
+        joins.no_prefix clocks pins (meets (whole_of t p opts)) met_clocks (meets (pins_of t p opts)) whole_parts at placement_of ok
         (subst (λ (vs : List VarShape). NoneLegal vs (meets (whole_of t p opts))) whole_shape none) in
         subst (λ (vs : List VarShape). NoneLegal vs (meets (clocks_of t p opts at))) (sym clocks_shape)
-        (joins.none_front clocks (alone_variables (length p.signals)) (meets (clocks_of t p opts at)) met_clocks (λ ys. meets (pins_of t p opts) at) fixed_parts no_clocks)
+        (joins.none_prefix clocks (alone_variables (length p.signals)) (meets (clocks_of t p opts at)) met_clocks (λ ys. meets (pins_of t p opts) at) fixed_parts no_clocks)
 
   whole_split : (xs ys : List ℕ) → IsChoice clocks xs → IsChoice pins ys → meets (whole_of t p opts) (xs ++ ys) ≡ (met_clocks xs && meets (pins_of t p opts) ys)
   whole_split xs ys hx hy = whole_meet xs ys hx
@@ -293,5 +293,5 @@ module _ (t : TableParts) (p : Project) (opts : Opts) (board : IsBoard t p opts)
   pub none_placed : NoneLegal (pins_of t p opts).shape (meets (pins_of t p opts)) → NoneLegal (whole_of t p opts).shape (meets (whole_of t p opts))
   none_placed none =
       subst (λ (vs : List VarShape). NoneLegal vs (meets (whole_of t p opts))) (sym whole_shape)
-      (joins.none_back clocks pins (meets (whole_of t p opts)) met_clocks (meets (pins_of t p opts)) whole_split
+      (joins.none_suffix clocks pins (meets (whole_of t p opts)) met_clocks (meets (pins_of t p opts)) whole_split
       (subst (λ (vs : List VarShape). NoneLegal vs (meets (pins_of t p opts))) pins_shape none))

@@ -46,14 +46,14 @@ costs_join : (vs ws : List VarShape) → costs_most ws ≤ costs_most (vs ++ ws)
 costs_join [] ws = omega arith
 costs_join (v ∷ vs) ws = omega (arith, costs_join vs ws)
 
-choices_back : (vs ws : List VarShape) → HasPositions vs → choices_of ws ≤ choices_of (vs ++ ws)
-choices_back vs ws h =
+choices_suffix : (vs ws : List VarShape) → HasPositions vs → choices_of ws ≤ choices_of (vs ++ ws)
+choices_suffix vs ws h =
     let more : 1 * choices_of ws ≤ choices_of vs * choices_of ws = mul-le 1 (choices_of ws) (choices_of vs) (choices_of ws) (choices_pos vs h) (omega arith) in
     omega (arith, more, choices_join vs ws)
 
-narrow_back : (vs ws : List VarShape) → HasPositions vs → IsNarrow (vs ++ ws) → IsNarrow ws
-narrow_back vs ws h n =
-    omega (arith, n, mul-le (1 + costs_most ws) (choices_of ws) (1 + costs_most (vs ++ ws)) (choices_of (vs ++ ws)) (omega (arith, costs_join vs ws)) (choices_back vs ws h))
+narrow_suffix : (vs ws : List VarShape) → HasPositions vs → IsNarrow (vs ++ ws) → IsNarrow ws
+narrow_suffix vs ws h n =
+    omega (arith, n, mul-le (1 + costs_most ws) (choices_of ws) (1 + costs_most (vs ++ ws)) (choices_of (vs ++ ws)) (omega (arith, costs_join vs ws)) (choices_suffix vs ws h))
 
 -- ---- texts
 
@@ -116,7 +116,7 @@ module _ (t : TableParts) (p : Project) (opts : Opts) (board : IsBoard t p opts)
   pins_narrow : IsNarrow (pins_of t p opts).shape
   pins_narrow =
       let joined : IsNarrow (clock_shape t p opts Whole ++ pin_variables t p.signals) = subst IsNarrow (parts.whole_shape t p opts board) is_narrow in
-      subst IsNarrow (sym (parts.pins_shape t p opts board)) (narrow_back (clock_shape t p opts Whole) (pin_variables t p.signals) (boards.clocks_positions t p opts board) joined)
+      subst IsNarrow (sym (parts.pins_shape t p opts board)) (narrow_suffix (clock_shape t p opts Whole) (pin_variables t p.signals) (boards.clocks_positions t p opts board) joined)
 
   pub same : (a b : Answer) → OfBoard (pins_of t p opts) (whole_of t p opts) a → OfProblem (whole_of t p opts) (OfWhole false (whole_of t p opts)) b → SayTheSame (whole_of t p opts) a b
   same a b (due.wide v not_narrow first says) whole = absurd (not_narrow pins_narrow)

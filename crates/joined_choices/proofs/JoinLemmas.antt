@@ -29,8 +29,8 @@ index_join [] ws [] ys h = omega arith
 index_join [] ws (x ∷ xs) ys h = absurd h
 index_join (v ∷ vs) ws [] ys h = absurd h
 index_join (v ∷ vs) ws (x ∷ xs) ys h =
-    let front : x * choices_of (vs ++ ws) ≡ x * choices_of vs * choices_of ws = ap (λ (n : ℕ). x * n) (choices_join vs ws) ∙ sym (mul_assoc x (choices_of vs) (choices_of ws)) in
-    omega (arith, front, index_join vs ws xs ys h.1, spread (x * choices_of vs) (index_of vs xs) (choices_of ws))
+    let prefix : x * choices_of (vs ++ ws) ≡ x * choices_of vs * choices_of ws = ap (λ (n : ℕ). x * n) (choices_join vs ws) ∙ sym (mul_assoc x (choices_of vs) (choices_of ws)) in
+    omega (arith, prefix, index_join vs ws xs ys h.1, spread (x * choices_of vs) (index_of vs xs) (choices_of ws))
 
 pub choice_join : (vs ws : List VarShape) (xs ys : List ℕ) → IsChoice vs xs → IsChoice ws ys → IsChoice (vs ++ ws) (xs ++ ys)
 choice_join [] ws [] ys h k = k
@@ -39,11 +39,11 @@ choice_join (v ∷ vs) ws [] ys h k = absurd h
 choice_join (v ∷ vs) ws (x ∷ xs) ys h k = (h.0, choice_join vs ws xs ys h.1 k)
 
 pub choice_parts : (vs ws : List VarShape) (c : List ℕ) → IsChoice (vs ++ ws) c → IsJoined vs ws c
-choice_parts [] ws c h = record { front = []; back = c; is = refl; front_choice = tt; back_choice = h }
+choice_parts [] ws c h = record { prefix = []; suffix = c; is = refl; prefix_choice = tt; suffix_choice = h }
 choice_parts (v ∷ vs) ws [] h = absurd h
 choice_parts (v ∷ vs) ws (x ∷ c) h =
     let r : IsJoined vs ws c = choice_parts vs ws c h.1 in
-    record { front = x ∷ r.front; back = r.back; is = ap (λ (l : List ℕ). x ∷ l) r.is; front_choice = (h.0, r.front_choice); back_choice = r.back_choice }
+    record { prefix = x ∷ r.prefix; suffix = r.suffix; is = ap (λ (l : List ℕ). x ∷ l) r.is; prefix_choice = (h.0, r.prefix_choice); suffix_choice = r.suffix_choice }
 
 -- ---- ranks
 
@@ -107,18 +107,18 @@ module _ (vs ws : List VarShape) where
       omega (arith, joined_rank vs ws xs ys hx, joined_rank vs ws us zs hu, l) in
       rank_tells (choices_of (vs ++ ws)) (cost_of vs xs + cost_of ws ys) (index_of vs xs * choices_of ws + index_of ws ys) (cost_of vs us + cost_of ws zs) (index_of vs us * choices_of ws + index_of ws zs) below below_too le
 
-  -- beside the same front, the backs are ordered as the joined choices are
-  pub back_le : (xs ys zs : List ℕ) → IsChoice vs xs → IsChoice ws ys → IsChoice ws zs → rank_of (vs ++ ws) (xs ++ ys) ≤ rank_of (vs ++ ws) (xs ++ zs) → rank_of ws ys ≤ rank_of ws zs
-  back_le xs ys zs hx hy hz l =
+  -- beside the same prefix, the suffixes are ordered as the joined choices are
+  pub suffix_le : (xs ys zs : List ℕ) → IsChoice vs xs → IsChoice ws ys → IsChoice ws zs → rank_of (vs ++ ws) (xs ++ ys) ≤ rank_of (vs ++ ws) (xs ++ zs) → rank_of ws ys ≤ rank_of ws zs
+  suffix_le xs ys zs hx hy hz l =
       let t = tells xs ys xs zs hx hy hx hz l in
       rank_from (choices_of ws) (cost_of ws ys) (index_of ws ys) (cost_of ws zs) (index_of ws zs) (index_lt ws ys hy) record {
         costs = omega (arith, t.costs);
         indices = λ e. omega (arith, t.indices (omega (arith, e)));
       }
 
-  -- before the same back, the fronts are
-  pub front_le : (xs us ys : List ℕ) → IsChoice vs xs → IsChoice vs us → IsChoice ws ys → rank_of (vs ++ ws) (xs ++ ys) ≤ rank_of (vs ++ ws) (us ++ ys) → rank_of vs xs ≤ rank_of vs us
-  front_le xs us ys hx hu hy l =
+  -- before the same suffix, the prefixes are
+  pub prefix_le : (xs us ys : List ℕ) → IsChoice vs xs → IsChoice vs us → IsChoice ws ys → rank_of (vs ++ ws) (xs ++ ys) ≤ rank_of (vs ++ ws) (us ++ ys) → rank_of vs xs ≤ rank_of vs us
+  prefix_le xs us ys hx hu hy l =
       let t = tells xs ys us ys hx hy hu hy l in
       rank_from (choices_of vs) (cost_of vs xs) (index_of vs xs) (cost_of vs us) (index_of vs us) (index_lt vs xs hx) record {
         costs = omega (arith, t.costs);
@@ -144,52 +144,52 @@ both_true : (a b : Bool) → a ≡ true → b ≡ true → (a && b) ≡ true
 both_true a b e f = rw (e, f) refl
 
 -- a joined choice is legal where each of its parts is
-module _ (vs ws : List VarShape) (legal front back : List ℕ → Bool) (parts : (xs ys : List ℕ) → IsChoice vs xs → IsChoice ws ys → legal (xs ++ ys) ≡ (front xs && back ys)) where
-  made_legal : (xs ys : List ℕ) → IsChoice vs xs → IsChoice ws ys → front xs ≡ true → back ys ≡ true → legal (xs ++ ys) ≡ true
-  made_legal xs ys hx hy e f = parts xs ys hx hy ∙ both_true (front xs) (back ys) e f
+module _ (vs ws : List VarShape) (legal prefix suffix : List ℕ → Bool) (parts : (xs ys : List ℕ) → IsChoice vs xs → IsChoice ws ys → legal (xs ++ ys) ≡ (prefix xs && suffix ys)) where
+  made_legal : (xs ys : List ℕ) → IsChoice vs xs → IsChoice ws ys → prefix xs ≡ true → suffix ys ≡ true → legal (xs ++ ys) ≡ true
+  made_legal xs ys hx hy e f = parts xs ys hx hy ∙ both_true (prefix xs) (suffix ys) e f
 
-  pub least_joined : (xs ys : List ℕ) → IsLeast vs front xs → IsLeast ws back ys → IsLeast (vs ++ ws) legal (xs ++ ys)
+  pub least_joined : (xs ys : List ℕ) → IsLeast vs prefix xs → IsLeast ws suffix ys → IsLeast (vs ++ ws) legal (xs ++ ys)
   least_joined xs ys a b = record {
     is_choice = choice_join vs ws xs ys a.is_choice b.is_choice;
     is_legal = made_legal xs ys a.is_choice b.is_choice a.is_legal b.is_legal;
     is_lowest = λ other choice ok.
         let r : IsJoined vs ws other = choice_parts vs ws other choice in
-        let ok_parts : legal (r.front ++ r.back) ≡ true = subst (λ (c : List ℕ). legal c ≡ true) r.is ok in
-        let each = both (front r.front) (back r.back) (sym (parts r.front r.back r.front_choice r.back_choice) ∙ ok_parts) in
-        let low = joined_le vs ws xs ys r.front r.back a.is_choice b.is_choice r.front_choice r.back_choice (a.is_lowest r.front r.front_choice each.0) (b.is_lowest r.back r.back_choice each.1) in
+        let ok_parts : legal (r.prefix ++ r.suffix) ≡ true = subst (λ (c : List ℕ). legal c ≡ true) r.is ok in
+        let each = both (prefix r.prefix) (suffix r.suffix) (sym (parts r.prefix r.suffix r.prefix_choice r.suffix_choice) ∙ ok_parts) in
+        let low = joined_le vs ws xs ys r.prefix r.suffix a.is_choice b.is_choice r.prefix_choice r.suffix_choice (a.is_lowest r.prefix r.prefix_choice each.0) (b.is_lowest r.suffix r.suffix_choice each.1) in
         subst (λ (c : List ℕ). rank_of (vs ++ ws) (xs ++ ys) ≤ rank_of (vs ++ ws) c) (sym r.is) low;
   }
 
-  pub least_front : (xs ys : List ℕ) → IsChoice vs xs → IsChoice ws ys → IsLeast (vs ++ ws) legal (xs ++ ys) → IsLeast vs front xs
-  least_front xs ys hx hy l =
-      let each = both (front xs) (back ys) (sym (parts xs ys hx hy) ∙ l.is_legal) in
+  pub least_prefix : (xs ys : List ℕ) → IsChoice vs xs → IsChoice ws ys → IsLeast (vs ++ ws) legal (xs ++ ys) → IsLeast vs prefix xs
+  least_prefix xs ys hx hy l =
+      let each = both (prefix xs) (suffix ys) (sym (parts xs ys hx hy) ∙ l.is_legal) in
       record {
         is_choice = hx;
         is_legal = each.0;
-        is_lowest = λ other choice ok. front_le vs ws xs other ys hx choice hy (l.is_lowest (other ++ ys) (choice_join vs ws other ys choice hy) (made_legal other ys choice hy ok each.1));
+        is_lowest = λ other choice ok. prefix_le vs ws xs other ys hx choice hy (l.is_lowest (other ++ ys) (choice_join vs ws other ys choice hy) (made_legal other ys choice hy ok each.1));
       }
 
-  pub least_back : (xs ys : List ℕ) → IsChoice vs xs → IsChoice ws ys → IsLeast (vs ++ ws) legal (xs ++ ys) → IsLeast ws back ys
-  least_back xs ys hx hy l =
-      let each = both (front xs) (back ys) (sym (parts xs ys hx hy) ∙ l.is_legal) in
+  pub least_suffix : (xs ys : List ℕ) → IsChoice vs xs → IsChoice ws ys → IsLeast (vs ++ ws) legal (xs ++ ys) → IsLeast ws suffix ys
+  least_suffix xs ys hx hy l =
+      let each = both (prefix xs) (suffix ys) (sym (parts xs ys hx hy) ∙ l.is_legal) in
       record {
         is_choice = hy;
         is_legal = each.1;
-        is_lowest = λ other choice ok. back_le vs ws xs ys other hx hy choice (l.is_lowest (xs ++ other) (choice_join vs ws xs other hx choice) (made_legal xs other hx choice each.0 ok));
+        is_lowest = λ other choice ok. suffix_le vs ws xs ys other hx hy choice (l.is_lowest (xs ++ other) (choice_join vs ws xs other hx choice) (made_legal xs other hx choice each.0 ok));
       }
 
-  pub none_front : NoneLegal vs front → NoneLegal (vs ++ ws) legal
-  none_front none other choice ok =
+  pub none_prefix : NoneLegal vs prefix → NoneLegal (vs ++ ws) legal
+  none_prefix none other choice ok =
       let r : IsJoined vs ws other = choice_parts vs ws other choice in
-      let ok_parts : legal (r.front ++ r.back) ≡ true = subst (λ (c : List ℕ). legal c ≡ true) r.is ok in
-      none r.front r.front_choice (both (front r.front) (back r.back) (sym (parts r.front r.back r.front_choice r.back_choice) ∙ ok_parts)).0
+      let ok_parts : legal (r.prefix ++ r.suffix) ≡ true = subst (λ (c : List ℕ). legal c ≡ true) r.is ok in
+      none r.prefix r.prefix_choice (both (prefix r.prefix) (suffix r.suffix) (sym (parts r.prefix r.suffix r.prefix_choice r.suffix_choice) ∙ ok_parts)).0
 
-  pub none_back : NoneLegal ws back → NoneLegal (vs ++ ws) legal
-  none_back none other choice ok =
+  pub none_suffix : NoneLegal ws suffix → NoneLegal (vs ++ ws) legal
+  none_suffix none other choice ok =
       let r : IsJoined vs ws other = choice_parts vs ws other choice in
-      let ok_parts : legal (r.front ++ r.back) ≡ true = subst (λ (c : List ℕ). legal c ≡ true) r.is ok in
-      none r.back r.back_choice (both (front r.front) (back r.back) (sym (parts r.front r.back r.front_choice r.back_choice) ∙ ok_parts)).1
+      let ok_parts : legal (r.prefix ++ r.suffix) ≡ true = subst (λ (c : List ℕ). legal c ≡ true) r.is ok in
+      none r.suffix r.suffix_choice (both (prefix r.prefix) (suffix r.suffix) (sym (parts r.prefix r.suffix r.prefix_choice r.suffix_choice) ∙ ok_parts)).1
 
-  -- beside a legal back, no front is legal where no joined choice is
-  pub no_front : (ys : List ℕ) → IsChoice ws ys → back ys ≡ true → NoneLegal (vs ++ ws) legal → NoneLegal vs front
-  no_front ys hy ok none other choice e = none (other ++ ys) (choice_join vs ws other ys choice hy) (made_legal other ys choice hy e ok)
+  -- beside a legal suffix, no prefix is legal where no joined choice is
+  pub no_prefix : (ys : List ℕ) → IsChoice ws ys → suffix ys ≡ true → NoneLegal (vs ++ ws) legal → NoneLegal vs prefix
+  no_prefix ys hy ok none other choice e = none (other ++ ys) (choice_join vs ws other ys choice hy) (made_legal other ys choice hy e ok)

@@ -5,7 +5,7 @@ pub returns-clause-choices : goal.returns-clause-choices
 returns-clause-choices c = choices_join
 
 pub returns-clause-cost : goal.returns-clause-cost
-returns-clause-cost c = λ vs ws front back h. cost_join vs ws front back h
+returns-clause-cost c = λ vs ws prefix suffix h. cost_join vs ws prefix suffix h
 
 pub returns-clause-index : goal.returns-clause-index
-returns-clause-index c = λ vs ws front back h. index_join vs ws front back h
+returns-clause-index c = λ vs ws prefix suffix h. index_join vs ws prefix suffix h

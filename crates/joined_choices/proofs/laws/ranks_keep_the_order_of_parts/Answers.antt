@@ -1,11 +1,11 @@
-use Rattle.joined_choices.proofs.JoinLemmas.{back_le, front_le, joined_le}
+use Rattle.joined_choices.proofs.JoinLemmas.{suffix_le, prefix_le, joined_le}
 use Rattle.joined_choices.proofs.laws.ranks_keep_the_order_of_parts.Goals as goal
 
 pub returns-clause-both : goal.returns-clause-both
-returns-clause-both c = λ vs ws front back other rest a b d e l m. joined_le vs ws front back other rest a b d e l m
+returns-clause-both c = λ vs ws prefix suffix other rest a b d e l m. joined_le vs ws prefix suffix other rest a b d e l m
 
-pub returns-clause-front : goal.returns-clause-front
-returns-clause-front c = λ vs ws front other back a b d l. front_le vs ws front other back a b d l
+pub returns-clause-prefix : goal.returns-clause-prefix
+returns-clause-prefix c = λ vs ws prefix other suffix a b d l. prefix_le vs ws prefix other suffix a b d l
 
-pub returns-clause-back : goal.returns-clause-back
-returns-clause-back c = λ vs ws front back rest a b d l. back_le vs ws front back rest a b d l
+pub returns-clause-suffix : goal.returns-clause-suffix
+returns-clause-suffix c = λ vs ws prefix suffix rest a b d l. suffix_le vs ws prefix suffix rest a b d l
