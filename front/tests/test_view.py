@@ -217,13 +217,37 @@ class Pages(unittest.TestCase):
         status, page, said = self.call({"resolve": (cases.REPORT, 0), "tree": (cases.TREE, 0)}, "--need", "USART1_TX")
         self.assertEqual((status, said), (0, ""))
         self.shows("4 signals placed, 1 of them for a need, 1 moved, 1 clock setting changed.", page)
-        self.shows("moves from <s>PB6 (pin 13)</s> to <b>PB8 (pin 16)</b>", page)
-        self.shows("PLLQ: <s>4</s> <b>7</b>", page)
+        self.shows('moves from <span class="old">PB6 (pin 13)</span> to <b>PB8 (pin 16)</b>', page)
+        self.shows('PLLQ changes from <span class="old">4</span> to <b>7</b>', page)
         code = html.unescape(re.search(r'<pre id="text".*?><code>(.*?)</code>', page, re.DOTALL)[1])
         self.assertEqual(code, cases.CODE)
         # each pin stands in the wide and in the narrow drawing
         self.assertEqual(len(re.findall(r'<g class="pin ', page)), 32)
         self.assertEqual(len(re.findall(r'<path class="arrow"', page)), 2)
+
+    def test_what_a_screen_reader_says(self):
+        """As it was heard from Orca with Chromium."""
+        page = self.call({"resolve": (cases.REPORT, 0), "tree": (cases.TREE, 0)}, "--need", "USART1_TX",
+                         project=cases.PROJECT.replace("PB7.Locked", "PB7.GPIO_Label=PB7\nPB7.Locked"))[1]
+        # what a pin is, in the wide and in the narrow drawing, with each thing told once
+        for name in ("PB8, pin 16: I2C1_SCL, AF4, “Audio =clock”, moved from PB6 (pin 13). It could also be at PB6 (pin 13): USART1_TX.",
+                     "PB7, pin 14: GPIO_Output, OUTPUT, kept, locked.",
+                     "PB6, pin 13: USART1_TX, AF7, placed for a need. It could also be at PA9 (pin 5): free."):
+            self.assertEqual(page.count(f'aria-label="{name}"'), 2, name)
+        self.shows("PB10, pin 8: held.", page)
+        # a number is one number, and an empty cell is empty
+        gap = '<span class="gap"></span>'
+        self.shows(f">336{gap}000{gap}000\u00a0Hz<", page)
+        self.shows('<span aria-hidden="true">–</span>', page)
+        # the text below the package is the name of the pin that has the focus: it is not said twice; nor is an empty status
+        self.shows('<p id="about" aria-hidden="true"', page)
+        self.shows('<span id="copied" aria-live="polite"></span>', page)
+        self.shows('role="status"', page, 0)
+
+    def test_a_setting_that_had_no_value(self):
+        off = re.sub(r"(VCO_IN|VCO|CLK48) \d+", r"\1 off", cases.TREE).replace("pll HSE 8 336 2 4", "pll off")
+        page = self.call({"resolve": (cases.REPORT, 0), "tree": (off, 0)})[1]
+        self.shows('PLL source changes from <span class="old">off</span> to <b>HSE</b></li><li>PLLM is <b>8</b></li>', page)
 
     def test_a_page_takes_nothing_from_outside(self):
         page = self.call({"resolve": (cases.REPORT, 0), "tree": (cases.TREE, 0)})[1]
