@@ -171,6 +171,19 @@ class Clocks(unittest.TestCase):
         self.assertEqual((cells["HCLK"].limit, cells["HCLK"].state), ("14.200001–160\u00a0MHz", "broken"))
         self.assertEqual(self.cells(vdd=2500)["HCLK"].state, "broken")
 
+    def test_of_over_drive_and_waits_what_changed_is_told(self):
+        limits = dict(cases.TABLE["limits"], over={"sysclk": 180000000, "pclk1": 45000000, "pclk2": 90000000})
+        table, old = read_table(cases.table_bytes(limits=limits)), read_tree(cases.TREE)[0]
+        over = read_tree(cases.CLOCK.replace("vos 1", "vos 1 over") + "limits met\n")[0]
+        slow = read_tree(cases.CLOCK.replace("vos 1", "vos 2").replace("wait 5", "wait 4") + "limits met\n")[0]
+        told = [cells_of(table, clock, before, [], {}, None)["FLASH"] for clock, before in ((over, old), (slow, old), (old, over), (old, old))]
+        self.assertEqual([(cell.value, cell.revalued, cell.made, cell.was, cell.state) for cell in told], [
+            ("5 waits", False, "over-drive", "no over-drive", "changed"),
+            ("4 waits", True, "scale 2", "5 waits, scale 1", "changed"),
+            ("5 waits", False, "scale 1", "over-drive", "changed"),
+            ("5 waits", False, "scale 1", "", "same"),
+        ])
+
     def test_no_limit_where_no_peripheral_needs_48_mhz(self):
         table = small()[0]
         clock = read_tree(cases.TREE)[0]
