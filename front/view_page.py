@@ -129,7 +129,9 @@ def why(view):
 def legend(view):
     kinds = {place.kind for place in view.places} | {"free"} | ({"power"} if view.table.package_pins else set())
     items = [(kind, words) for kind, words in KINDS if kind in kinds]
-    items += [("contested", "wanted by too many")] if view.hall else []
+    if view.hall:
+        items += [("contested", "wanted by too many"), ("wanting", "a signal that wants it")]
+        items += [("need of-set", "a need that wants it")] if any(wanted.need for wanted in view.hall.wanted) else []
     return element("ul", *[element("li", element("span", class_=f"swatch {kind}"), esc(words)) for kind, words in items],
                    class_="legend")
 

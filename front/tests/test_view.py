@@ -273,6 +273,8 @@ class Pages(unittest.TestCase):
         self.shows("Nothing fits", page)
         self.shows("2 signals want 3 pins: I2C1_SCL “Audio =clock” and a held pin have only PB6, PB8 and PB10 between them.", page)
         self.shows("it breaks limit 10: a peripheral needs exactly 48 MHz", page)
+        self.shows("wanted by too many</li>", page)
+        self.shows("a signal that wants it</li></ul>", page)
         self.shows("C text</h2>", page, 0)
         status, page, _ = self.call({**refuted, "explain": ("because <so>\n", 0)})
         self.shows("because &lt;so&gt;\n", page)
