@@ -328,7 +328,8 @@ def grid_svg(scene, wide):
 
 
 def drawing(pins, lines, size, wide, name):
-    return element("svg", pins, element("g", class_="reach"), element("g", lines, class_="lines"),
+    """The picture. What its lines and boxes show is told in words by the pins and above it, and is not read aloud here."""
+    return element("svg", pins, element("g", class_="reach"), element("g", lines, class_="lines", aria_hidden="true"),
                    class_="wide" if wide else "narrow", viewBox=f"0 0 {size[0]:.0f} {size[1]:.0f}", role="group",
                    aria_label=name, style=f"max-width:{size[0] if wide else 560:.0f}px")
 

@@ -133,7 +133,7 @@ def legend(view):
         items += [("contested", "wanted by too many"), ("wanting", "a signal that wants it")]
         items += [("need of-set", "a need that wants it")] if any(wanted.need for wanted in view.hall.wanted) else []
     return element("ul", *[element("li", element("span", class_=f"swatch {kind}"), esc(words)) for kind, words in items],
-                   class_="legend")
+                   class_="legend", aria_label="What the colours mean")
 
 
 def board(view):
