@@ -127,13 +127,14 @@ def why(view):
 
 
 def legend(view):
+    """What the colours mean. Who does not see them is told the same by each pin."""
     kinds = {place.kind for place in view.places} | {"free"} | ({"power"} if view.table.package_pins else set())
     items = [(kind, words) for kind, words in KINDS if kind in kinds]
     if view.hall:
         items += [("contested", "wanted by too many"), ("wanting", "a signal that wants it")]
         items += [("need of-set", "a need that wants it")] if any(wanted.need for wanted in view.hall.wanted) else []
     return element("ul", *[element("li", element("span", class_=f"swatch {kind}"), esc(words)) for kind, words in items],
-                   class_="legend", aria_label="What the colours mean")
+                   class_="legend", aria_hidden="true")
 
 
 def board(view):

@@ -256,9 +256,9 @@ class Pages(unittest.TestCase):
         self.shows('<p id="about" aria-hidden="true"', page)
         self.shows('<span id="copied" aria-live="polite"></span>', page)
         self.shows('role="status"', page, 0)
-        # lines without words of their own
+        # lines, and colours
         self.shows('<g class="lines" aria-hidden="true">', page, 2)
-        self.shows('<ul class="legend" aria-label="What the colours mean">', page)
+        self.shows('<ul class="legend" aria-hidden="true">', page)
 
     def test_a_setting_that_had_no_value(self):
         off = re.sub(r"(VCO_IN|VCO|CLK48) \d+", r"\1 off", cases.TREE).replace("pll HSE 8 336 2 4", "pll off")
