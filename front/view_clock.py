@@ -223,7 +223,8 @@ def node(cell, at, has_old):
         text_at(width - 10, 17, made, class_="made new" if cell.remade else "made", text_anchor="end", font_size=10.5),
         text_at(10, 35, cell.value, class_="value new" if cell.revalued else "value", font_size=13),
     ]
-    if cell.near not in ("", "at its most", "at its least"):
+    beside = cell.near not in ("broken", "exact") and width_of(len(cell.limit) + 1 + len(cell.near), 10) < width - 20
+    if not beside and cell.near not in ("", "at its most", "at its least"):
         inside.append(text_at(width - 10, 35, cell.near, class_="near", text_anchor="end", font_size=10))
     if cell.was:
         inside.append(text_at(10, 49, fit(cell.was, 9.5, width - 20), class_="was", font_size=9.5))
@@ -231,9 +232,8 @@ def node(cell, at, has_old):
     if cell.share is not None:
         inside.append(bar(cell, width, low))
     if cell.limit:
-        marks = {"at its most": "most", "at its least": "least"}.get(cell.near)
         inside.append(text_at(10, at.height - 6, fit(cell.limit, 10, width - 20), class_="limit", font_size=10))
-        if marks and width_of(len(cell.limit) + 1 + len(cell.near), 10) < width - 20:
+        if beside and cell.near:
             inside.append(text_at(width - 10, at.height - 6, cell.near, class_="near", text_anchor="end", font_size=10))
     return element("g", *inside, class_=f"node {cell.state}", transform=f"translate({x:.0f} {y:.0f})")
 

@@ -13,10 +13,11 @@ import view_cases as cases
 
 from toarnyk_view import best_hall, options_of
 from view_answers import Unreadable, read_placement, read_refutation, read_report, read_tree
-from view_board import hall_sets, ips_in_use, places_of, values_of
+from view_board import Wanted, hall_sets, ips_in_use, places_of, values_of
 from view_clock import cells_of, changes_of
 from view_inputs import keys_of, read_project, read_table
 from view_limits import bounds_of
+from view_package import asides
 from view_svg import cut, esc, hertz, megahertz
 
 VIEW = cases.HERE.parent / "toarnyk_view.py"
@@ -139,6 +140,13 @@ class Board(unittest.TestCase):
         self.assertEqual([(w.signal, w.pins) for w in hall.wanted], [("I2C1_SCL", ("PB6",)), ("USART1_TX", ("PA9", "PB6"))])
         self.assertEqual((hall.lines, hall.pins()), (False, ("PB6", "PA9")))
         self.assertIsNone(best_hall(hall_sets(read_refutation("proof 1\nbound none\nL 13\nend\n"), project, [], table)))
+
+    def test_lines_to_one_pin_end_beside_each_other(self):
+        wanted = [Wanted("A", ("PB6",), False, False), Wanted("B", ("PA9", "PB6"), True, False), Wanted("C", ("PB7",), False, False)]
+        self.assertEqual(asides(wanted, 6), {(0, "PB6"): -3, (1, "PB6"): 3, (1, "PA9"): 0, (2, "PB7"): 0})
+        # however many they are, they stay within the pin
+        far = asides([Wanted(name, ("PB6",), False, False) for name in "ABCDE"], 6)
+        self.assertEqual([round(far[index, "PB6"], 1) for index in range(5)], [-4.8, -2.4, 0, 2.4, 4.8])
 
     def test_peripherals_in_use(self):
         table, project, _ = small()
