@@ -56,10 +56,11 @@ def about_place(place, view, here):
 def abouts(view):
     """A sentence or two about each port pin."""
     here, numbers, found = by_pin(view.places), view.table.numbers(), {}
+    contested = view.hall.pins() if view.hall else ()
     for pin in view.table.pins:
         head = f"{pin}, pin {numbers[pin]}: " if pin in numbers else f"{pin}: "
         said = " ".join(about_place(place, view, here) for place in here.get(pin, []))
-        found[pin] = head + (said or "free.")
+        found[pin] = head + (said or "free.") + (" Too many signals want it." if pin in contested else "")
     return found
 
 

@@ -285,6 +285,8 @@ class Pages(unittest.TestCase):
         self.shows("2 signals want 3 pins: I2C1_SCL “Audio =clock” and a held pin have only PB6, PB8 and PB10 between them.", page)
         self.shows("it breaks limit 10: a peripheral needs exactly 48 MHz", page)
         self.shows("wanted by too many</li>", page)
+        self.shows('PB10, pin 8: held. Too many signals want it."', page)
+        self.shows('PB7, pin 14: GPIO_Output, OUTPUT, kept, locked."', page)
         self.shows("a signal that wants it</li></ul>", page)
         self.shows("C text</h2>", page, 0)
         status, page, _ = self.call({**refuted, "explain": ("because <so>\n", 0)})
