@@ -12,10 +12,12 @@ TITLES = {"HSI": "HSI", "HSE": "HSE", "VCO_IN": "VCO input", "VCO": "VCO", "SYSC
 
 @dataclass(frozen=True)
 class Cell:
-    """A node of the diagram: its value as text, how it is made, what both were before, and its limit."""
+    """A node of the diagram: its value as text, how it is made, whether either is another than before, what both were, and
+    its limit."""
 
     name: str
     value: str
+    revalued: bool
     made: str
     remade: bool
     was: str
@@ -61,8 +63,9 @@ def cell_of(name, clock, old, bound, broken):
     state = "broken" if is_broken else "off" if not runs else "changed" if was else "same"
     near = "" if not (runs and bound) else "broken" if is_broken else bound.near(value)
     made = made_of(clock)[name]
-    return Cell(name, hertz(value) if runs else "off", made, made != made_of(old)[name], was, bound.short if bound and runs else "",
-                near, bound.share(value) if bound and runs else None, state, bound.words if bound else "")
+    return Cell(name, hertz(value) if runs else "off", value != values_of(old)[name], made, made != made_of(old)[name], was,
+                bound.short if bound and runs else "", near, bound.share(value) if bound and runs else None, state,
+                bound.words if bound else "")
 
 
 def waits_of(clock):
@@ -75,16 +78,19 @@ def power_of(clock):
 
 
 def old_flash(clock, old):
-    return waits_of(old) + ("" if old.step == clock.step else f", {power_of(old)}")
+    """What of the flash and its supply was otherwise."""
+    waits = [] if old.wait == clock.wait else [waits_of(old)]
+    if old.step == clock.step:
+        return ", ".join(waits)
+    return ", ".join(waits + ["no over-drive" if clock.over and old.vos == clock.vos else power_of(old)])
 
 
 def flash_cell(clock, old, broken):
-    waits = waits_of(clock)
-    was = "" if (old.wait, old.vdd, old.step) == (clock.wait, clock.vdd, clock.step) else old_flash(clock, old)
+    was = old_flash(clock, old)
     is_broken = clock.wait == "none" or NODE_OF_LIMIT.get(broken) == "FLASH"
     state = "broken" if is_broken else "changed" if was else "same"
     supply = f"scale {clock.vos}, {clock.vdd} mV" if clock.over else f"supply {clock.vdd} mV"
-    return Cell("FLASH", waits, power_of(clock), old.step != clock.step, was, supply, "", None, state,
+    return Cell("FLASH", waits_of(clock), old.wait != clock.wait, power_of(clock), old.step != clock.step, was, supply, "", None, state,
                 f"wait states of the flash at {clock.vdd} mV; the regulator's voltage scale {clock.scale}")
 
 
@@ -215,9 +221,10 @@ def node(cell, at, has_old):
         element("rect", class_="box", width=width, height=at.height, rx=8),
         text_at(10, 17, title, class_="name", font_size=12),
         text_at(width - 10, 17, made, class_="made new" if cell.remade else "made", text_anchor="end", font_size=10.5),
-        text_at(10, 35, cell.value, class_="value", font_size=13),
+        text_at(10, 35, cell.value, class_="value new" if cell.revalued else "value", font_size=13),
     ]
-    if cell.near not in ("", "at its most", "at its least"):
+    beside = cell.near not in ("broken", "exact") and width_of(len(cell.limit) + 1 + len(cell.near), 10) < width - 20
+    if not beside and cell.near not in ("", "at its most", "at its least"):
         inside.append(text_at(width - 10, 35, cell.near, class_="near", text_anchor="end", font_size=10))
     if cell.was:
         inside.append(text_at(10, 49, fit(cell.was, 9.5, width - 20), class_="was", font_size=9.5))
@@ -225,9 +232,8 @@ def node(cell, at, has_old):
     if cell.share is not None:
         inside.append(bar(cell, width, low))
     if cell.limit:
-        marks = {"at its most": "most", "at its least": "least"}.get(cell.near)
         inside.append(text_at(10, at.height - 6, fit(cell.limit, 10, width - 20), class_="limit", font_size=10))
-        if marks and width_of(len(cell.limit) + 1 + len(cell.near), 10) < width - 20:
+        if beside and cell.near:
             inside.append(text_at(width - 10, at.height - 6, cell.near, class_="near", text_anchor="end", font_size=10))
     return element("g", *inside, class_=f"node {cell.state}", transform=f"translate({x:.0f} {y:.0f})")
 
@@ -251,7 +257,7 @@ def clock_table(cells):
     """The same values in words."""
     rows = []
     for cell in cells.values():
-        value = cell.value + (f", was {cell.was}" if cell.was else "")
+        value = cell.value + (f"; before: {cell.was}" if cell.was else "")
         near = "the limit is broken" if cell.near == "broken" else cell.near
         rows.append(([TITLES[cell.name], value, cell.made, cell.words or "none", near], {"class_": cell.state}))
     return table_of(("Node", "Value", "Made from", "Limit", "How near"), rows)

@@ -51,9 +51,11 @@ class Spot:
     turned: bool
     sign: int
 
-    def inside(self, far):
-        """The point so far inside the body."""
-        return (self.x, self.y + self.sign * far) if self.turned else (self.x - self.sign * far, self.y)
+    def inside(self, far, aside=0):
+        """The point so far inside the body, and so far along its edge."""
+        if self.turned:
+            return self.x + aside, self.y + self.sign * far
+        return self.x - self.sign * far, self.y + aside
 
 
 @dataclass(frozen=True)
@@ -248,16 +250,27 @@ def pills(scene, frame):
         yield w, x, y, width, height, cut(w.named, most), font
 
 
+def asides(wanted, far):
+    """How far along its edge the line from each signal ends at each of its pins, so that no two end at one point."""
+    at_pin = {}
+    for index, one in enumerate(wanted):
+        for pin in one.pins:
+            at_pin.setdefault(pin, []).append(index)
+    return {(index, pin): (place - (len(found) - 1) / 2) * min(far, 2 * far / len(found))
+            for pin, found in at_pin.items() for place, index in enumerate(found)}
+
+
 def hall_lines(scene, frame, spots):
     """From each signal of the set a line to each pin where it can be."""
     at, lines, boxes = {spot.name: spot for spot in spots}, [], []
-    for w, x, y, width, height, name, font in pills(scene, frame):
+    aside = asides(scene.hall.wanted, frame.pitch * 0.36)
+    for index, (w, x, y, width, height, name, font) in enumerate(pills(scene, frame)):
         kind = "need" if w.need else "kept"
         for pin in (pin for pin in w.pins if pin in at):
-            end = at[pin].inside(PAD_INSIDE if frame.wide else 8)
+            end = at[pin].inside(PAD_INSIDE if frame.wide else 8, aside[index, pin])
             side = 1 if end[0] > x else -1
             start, pull = (x + side * width / 2, y), max(30, abs(end[0] - x) * 0.45)
-            away = at[pin].inside((PAD_INSIDE if frame.wide else 8) + (90 if frame.wide else 40))
+            away = at[pin].inside((PAD_INSIDE if frame.wide else 8) + (90 if frame.wide else 40), aside[index, pin])
             lines.append(element("path", class_=f"want {kind}", d=(
                 f"M{start[0]:.1f} {start[1]:.1f}C{start[0] + side * pull:.1f} {start[1]:.1f} "
                 f"{away[0]:.1f} {away[1]:.1f} {end[0]:.1f} {end[1]:.1f}")))
@@ -328,7 +341,8 @@ def grid_svg(scene, wide):
 
 
 def drawing(pins, lines, size, wide, name):
-    return element("svg", pins, element("g", class_="reach"), element("g", lines, class_="lines"),
+    """The picture. What its lines and boxes show is told in words by the pins and above it, and is not read aloud here."""
+    return element("svg", pins, element("g", class_="reach"), element("g", lines, class_="lines", aria_hidden="true"),
                    class_="wide" if wide else "narrow", viewBox=f"0 0 {size[0]:.0f} {size[1]:.0f}", role="group",
                    aria_label=name, style=f"max-width:{size[0] if wide else 560:.0f}px")
 

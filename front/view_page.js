@@ -14,7 +14,9 @@
     path.setAttribute("d", "M" + from.dataset.x + " " + from.dataset.y + "L" + to.dataset.x + " " + to.dataset.y);
     svg.querySelector(".reach").appendChild(path);
   }
+  var last = null;
   function show(pin) {
+    if (last !== pin) { last = null; }
     var svg = pin.ownerSVGElement, others = pin.dataset.others ? pin.dataset.others.split(" ") : [];
     clear();
     pin.classList.add("here");
@@ -31,10 +33,11 @@
   }
   drawing.addEventListener("pointerover", function (event) { shown(event, show); });
   drawing.addEventListener("focusin", function (event) { shown(event, show); });
-  // a finger shows the pin; the link to its row is followed by a second touch
-  var last = null;
-  drawing.addEventListener("click", function (event) {
-    shown(event, function (pin) {
+  // A finger shows the pin; the link to its row is followed by a second touch. Links alone listen to it: of all that is within
+  // an element that does, a screen reader says that it is clickable.
+  each(drawing.querySelectorAll("a"), function (link) {
+    link.addEventListener("click", function (event) {
+      var pin = link.querySelector(".pin");
       if (matchMedia("(hover: none)").matches && last !== pin) { event.preventDefault(); }
       last = pin;
     });

@@ -9,7 +9,7 @@ from view_board import by_pin
 from view_clock import changes_of, clock_pictures, clock_table
 from view_limits import LIMITS
 from view_package import Scene, picture
-from view_svg import counted, element, esc, esc_lines, table_of
+from view_svg import counted, element, esc, esc_lines, flowing, table_of
 from view_words import abouts, closing_words, hall_words, moves, part_of, verdict, where, who, why_counted
 
 HERE = pathlib.Path(__file__).resolve().parent
@@ -53,12 +53,21 @@ def section(name, title, *inside):
 
 def moved_item(place, view):
     label = f" “{place.label}”" if place.label else ""
-    return (f"<b>{esc(place.title)}</b>{esc(label)} moves from <s>{esc(where(view.table, place.home))}</s> "
+    return (f"<b>{esc(place.title)}</b>{esc(label)} moves from {old(where(view.table, place.home))} "
             f"to <b>{esc(where(view.table, place.pin))}</b>")
 
 
 def need_item(place, view):
     return f"<b>{esc(place.title)}</b>, a need, is at <b>{esc(where(view.table, place.pin))}</b> as {esc(place.mode)}"
+
+
+def old(text):
+    """Struck through to the eye alone: with an element for that, a screen reader says where it begins and ends."""
+    return element("span", esc(text), class_="old")
+
+
+def changed_item(name, before, new):
+    return f"{esc(name)} changes from {old(before)} to <b>{esc(new)}</b>" if before != "" else f"{esc(name)} is <b>{esc(new)}</b>"
 
 
 def change_items(view):
@@ -67,7 +76,7 @@ def change_items(view):
     items += [need_item(place, view) for place in view.places if place.state == "need"]
     if view.report:
         changed = changes_of(view.clock, view.old)
-        items += [f"{esc(name)}: <s>{esc(old)}</s> <b>{esc(new)}</b>" for name, old, new in changed]
+        items += [changed_item(*one) for one in changed]
     if view.report and view.broken:
         items.append(f"The project's own tree breaks limit {view.broken}: {esc(LIMITS.get(view.broken, ''))}.")
     return element("ul", *[element("li", item) for item in items]) if items and not view.refuted else ""
@@ -79,7 +88,7 @@ def facts(view):
         rank = view.report.rank
         found += [("Changes", f"{rank.cost}, and no choice that meets every limit needs fewer"),
                   ("Choices in all", f"{rank.choices:,}".replace(",", "\u202f"))]
-    return element("dl", *[element("div", element("dt", esc(name)), element("dd", esc(value))) for name, value in found])
+    return element("dl", *[element("div", element("dt", esc(name)), element("dd", flowing(value))) for name, value in found])
 
 
 def head(view):
@@ -118,11 +127,14 @@ def why(view):
 
 
 def legend(view):
+    """What the colours mean. Who does not see them is told the same by each pin."""
     kinds = {place.kind for place in view.places} | {"free"} | ({"power"} if view.table.package_pins else set())
     items = [(kind, words) for kind, words in KINDS if kind in kinds]
-    items += [("contested", "wanted by too many")] if view.hall else []
+    if view.hall:
+        items += [("contested", "wanted by too many"), ("wanting", "a signal that wants it")]
+        items += [("need of-set", "a need that wants it")] if any(wanted.need for wanted in view.hall.wanted) else []
     return element("ul", *[element("li", element("span", class_=f"swatch {kind}"), esc(words)) for kind, words in items],
-                   class_="legend")
+                   class_="legend", aria_hidden="true")
 
 
 def board(view):
@@ -131,7 +143,7 @@ def board(view):
     return section("package", "Package" if view.table.package_pins else "Ports",
                    element("p", HELP, class_="only-script hint"), legend(view),
                    element("div", picture(view.table, scene), class_="drawing", id="drawing"),
-                   element("p", id="about", role="status", class_="only-script"))
+                   element("p", id="about", aria_hidden="true", class_="only-script"))
 
 
 def signals(view):
@@ -167,7 +179,7 @@ def code(view):
         return ""
     button = element("button", "Copy", id="copy", type="button", class_="only-script")
     said = "Call <code>board_init</code> once, first thing after reset. "
-    return section("code", "C text", element("p", said, button, element("span", id="copied", role="status")),
+    return section("code", "C text", element("p", said, button, element("span", id="copied", aria_live="polite")),
                    element("pre", element("code", esc_lines(view.report.code)), id="text", tabindex="0",
                            aria_label="C text"))
 

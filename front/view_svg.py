@@ -24,6 +24,11 @@ def esc_lines(text):
     return "\n".join(map(esc, text.split("\n")))
 
 
+def flowing(text):
+    """The text between tags of HTML. The gaps within a number are no letters there: it is read aloud, and copied, as one."""
+    return esc(text).replace("\u202f", '<span class="gap"></span>')
+
+
 def cut(text, most):
     """The text with at most so many letters."""
     return text if len(text) <= most else text[:max(most - 1, 0)].rstrip() + "…"
@@ -46,13 +51,17 @@ def element(name, *inside, **named):
     return f"<{name}{attributes(named)}>{''.join(inside)}</{name}>"
 
 
+# what is seen in an empty cell; a screen reader has a word of its own for one
+NOTHING = '<span aria-hidden="true">–</span>'
+
+
 def table_of(heads, rows):
     """A table; each row has its cells as text, of which the first heads the row, and the attributes of the row. The roles
     are told, since narrow windows show the rows as blocks, and what is shown so loses them."""
     made = []
     for (first, *cells), named in rows:
         made.append(element("tr", element("th", esc(first), scope="row", role="rowheader"), *[
-            element("td", esc(cell) or "–", data_head=head, class_=None if cell else "none", role="cell")
+            element("td", flowing(cell) or NOTHING, data_head=head, class_=None if cell else "none", role="cell")
             for head, cell in zip(heads[1:], cells)], role="row", **named))
     top = element("tr", *[element("th", head, scope="col", role="columnheader") for head in heads], role="row")
     return element("table", element("thead", top, role="rowgroup"), element("tbody", *made, role="rowgroup"), role="table")

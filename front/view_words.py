@@ -32,11 +32,20 @@ def who(here):
         for place in here) or "free"
 
 
+def state_words(place, view):
+    """How it came to its pin; of a held pin the title tells that already."""
+    if place.is_held:
+        return ""
+    if place.state == "moved":
+        return f", moved from {where(view.table, place.home)}"
+    return ", placed for a need" if place.state == "need" else f", {place.state}"
+
+
 def about_place(place, view, here):
     text = place.title
     text += f", {place.mode}" if place.mode and not place.is_held else ""
-    text += f", “{place.label}”" if place.label else ""
-    text += f", moved from {where(view.table, place.home)}" if place.state == "moved" else f", {place.kind}"
+    text += f", “{place.label}”" if place.label not in ("", place.pin, place.title) else ""
+    text += state_words(place, view)
     text += ", locked" if place.locked else ""
     if place.others:
         others = (f"{where(view.table, row.pin)}: {who(here.get(row.pin, []))}" for row in place.others)
@@ -47,10 +56,11 @@ def about_place(place, view, here):
 def abouts(view):
     """A sentence or two about each port pin."""
     here, numbers, found = by_pin(view.places), view.table.numbers(), {}
+    contested = view.hall.pins() if view.hall else ()
     for pin in view.table.pins:
         head = f"{pin}, pin {numbers[pin]}: " if pin in numbers else f"{pin}: "
         said = " ".join(about_place(place, view, here) for place in here.get(pin, []))
-        found[pin] = head + (said or "free.")
+        found[pin] = head + (said or "free.") + (" Too many signals want it." if pin in contested else "")
     return found
 
 

@@ -13,10 +13,11 @@ import view_cases as cases
 
 from toarnyk_view import best_hall, options_of
 from view_answers import Unreadable, read_placement, read_refutation, read_report, read_tree
-from view_board import hall_sets, ips_in_use, places_of, values_of
+from view_board import Wanted, hall_sets, ips_in_use, places_of, values_of
 from view_clock import cells_of, changes_of
 from view_inputs import keys_of, read_project, read_table
 from view_limits import bounds_of
+from view_package import asides
 from view_svg import cut, esc, hertz, megahertz
 
 VIEW = cases.HERE.parent / "toarnyk_view.py"
@@ -140,6 +141,13 @@ class Board(unittest.TestCase):
         self.assertEqual((hall.lines, hall.pins()), (False, ("PB6", "PA9")))
         self.assertIsNone(best_hall(hall_sets(read_refutation("proof 1\nbound none\nL 13\nend\n"), project, [], table)))
 
+    def test_lines_to_one_pin_end_beside_each_other(self):
+        wanted = [Wanted("A", ("PB6",), False, False), Wanted("B", ("PA9", "PB6"), True, False), Wanted("C", ("PB7",), False, False)]
+        self.assertEqual(asides(wanted, 6), {(0, "PB6"): -3, (1, "PB6"): 3, (1, "PA9"): 0, (2, "PB7"): 0})
+        # however many they are, they stay within the pin
+        far = asides([Wanted(name, ("PB6",), False, False) for name in "ABCDE"], 6)
+        self.assertEqual([round(far[index, "PB6"], 1) for index in range(5)], [-4.8, -2.4, 0, 2.4, 4.8])
+
     def test_peripherals_in_use(self):
         table, project, _ = small()
         self.assertEqual([ip["name"] for ip in ips_in_use(table, project, ["USB_OTG_FS_VBUS"])], ["USB_OTG_FS", "RNG"])
@@ -170,6 +178,19 @@ class Clocks(unittest.TestCase):
         cells = self.cells(vdd=1800)
         self.assertEqual((cells["HCLK"].limit, cells["HCLK"].state), ("14.200001–160\u00a0MHz", "broken"))
         self.assertEqual(self.cells(vdd=2500)["HCLK"].state, "broken")
+
+    def test_of_over_drive_and_waits_what_changed_is_told(self):
+        limits = dict(cases.TABLE["limits"], over={"sysclk": 180000000, "pclk1": 45000000, "pclk2": 90000000})
+        table, old = read_table(cases.table_bytes(limits=limits)), read_tree(cases.TREE)[0]
+        over = read_tree(cases.CLOCK.replace("vos 1", "vos 1 over") + "limits met\n")[0]
+        slow = read_tree(cases.CLOCK.replace("vos 1", "vos 2").replace("wait 5", "wait 4") + "limits met\n")[0]
+        told = [cells_of(table, clock, before, [], {}, None)["FLASH"] for clock, before in ((over, old), (slow, old), (old, over), (old, old))]
+        self.assertEqual([(cell.value, cell.revalued, cell.made, cell.was, cell.state) for cell in told], [
+            ("5 waits", False, "over-drive", "no over-drive", "changed"),
+            ("4 waits", True, "scale 2", "5 waits, scale 1", "changed"),
+            ("5 waits", False, "scale 1", "over-drive", "changed"),
+            ("5 waits", False, "scale 1", "", "same"),
+        ])
 
     def test_no_limit_where_no_peripheral_needs_48_mhz(self):
         table = small()[0]
@@ -217,13 +238,40 @@ class Pages(unittest.TestCase):
         status, page, said = self.call({"resolve": (cases.REPORT, 0), "tree": (cases.TREE, 0)}, "--need", "USART1_TX")
         self.assertEqual((status, said), (0, ""))
         self.shows("4 signals placed, 1 of them for a need, 1 moved, 1 clock setting changed.", page)
-        self.shows("moves from <s>PB6 (pin 13)</s> to <b>PB8 (pin 16)</b>", page)
-        self.shows("PLLQ: <s>4</s> <b>7</b>", page)
+        self.shows('moves from <span class="old">PB6 (pin 13)</span> to <b>PB8 (pin 16)</b>', page)
+        self.shows('PLLQ changes from <span class="old">4</span> to <b>7</b>', page)
         code = html.unescape(re.search(r'<pre id="text".*?><code>(.*?)</code>', page, re.DOTALL)[1])
         self.assertEqual(code, cases.CODE)
         # each pin stands in the wide and in the narrow drawing
         self.assertEqual(len(re.findall(r'<g class="pin ', page)), 32)
         self.assertEqual(len(re.findall(r'<path class="arrow"', page)), 2)
+
+    def test_what_a_screen_reader_says(self):
+        """As it was heard from Orca with Chromium."""
+        page = self.call({"resolve": (cases.REPORT, 0), "tree": (cases.TREE, 0)}, "--need", "USART1_TX",
+                         project=cases.PROJECT.replace("PB7.Locked", "PB7.GPIO_Label=PB7\nPB7.Locked"))[1]
+        # what a pin is, in the wide and in the narrow drawing, with each thing told once
+        for name in ("PB8, pin 16: I2C1_SCL, AF4, “Audio =clock”, moved from PB6 (pin 13). It could also be at PB6 (pin 13): USART1_TX.",
+                     "PB7, pin 14: GPIO_Output, OUTPUT, kept, locked.",
+                     "PB6, pin 13: USART1_TX, AF7, placed for a need. It could also be at PA9 (pin 5): free."):
+            self.assertEqual(page.count(f'aria-label="{name}"'), 2, name)
+        self.shows("PB10, pin 8: held.", page)
+        # a number is one number, and an empty cell is empty
+        gap = '<span class="gap"></span>'
+        self.shows(f">336{gap}000{gap}000\u00a0Hz<", page)
+        self.shows('<span aria-hidden="true">–</span>', page)
+        # the text below the package is the name of the pin that has the focus: it is not said twice; nor is an empty status
+        self.shows('<p id="about" aria-hidden="true"', page)
+        self.shows('<span id="copied" aria-live="polite"></span>', page)
+        self.shows('role="status"', page, 0)
+        # lines, and colours
+        self.shows('<g class="lines" aria-hidden="true">', page, 2)
+        self.shows('<ul class="legend" aria-hidden="true">', page)
+
+    def test_a_setting_that_had_no_value(self):
+        off = re.sub(r"(VCO_IN|VCO|CLK48) \d+", r"\1 off", cases.TREE).replace("pll HSE 8 336 2 4", "pll off")
+        page = self.call({"resolve": (cases.REPORT, 0), "tree": (off, 0)})[1]
+        self.shows('PLL source changes from <span class="old">off</span> to <b>HSE</b></li><li>PLLM is <b>8</b></li>', page)
 
     def test_a_page_takes_nothing_from_outside(self):
         page = self.call({"resolve": (cases.REPORT, 0), "tree": (cases.TREE, 0)})[1]
@@ -236,6 +284,10 @@ class Pages(unittest.TestCase):
         self.shows("Nothing fits", page)
         self.shows("2 signals want 3 pins: I2C1_SCL “Audio =clock” and a held pin have only PB6, PB8 and PB10 between them.", page)
         self.shows("it breaks limit 10: a peripheral needs exactly 48 MHz", page)
+        self.shows("wanted by too many</li>", page)
+        self.shows('PB10, pin 8: held. Too many signals want it."', page)
+        self.shows('PB7, pin 14: GPIO_Output, OUTPUT, kept, locked."', page)
+        self.shows("a signal that wants it</li></ul>", page)
         self.shows("C text</h2>", page, 0)
         status, page, _ = self.call({**refuted, "explain": ("because <so>\n", 0)})
         self.shows("because &lt;so&gt;\n", page)
