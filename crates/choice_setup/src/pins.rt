@@ -1,34 +1,21 @@
 //! What the signals set up at their pins.
 ghost use Rattle.std.specs.Prelude.{◌≡◌, ◌≤◌, ◌+◌, ◌<◌, ◌∷◌, Some, drop, length, set};
-ghost use Rattle.std.specs.Option.{option_copied, option_map_or};
 ghost use Rattle.res_model.specs.Placement.{uses_at};
-ghost use Rattle.res_model.specs.Signals.{signal_named};
 ghost use Rattle.choice_rank.specs.Choices.{IsChoice};
 ghost use Rattle.problem.specs.Meets.{places_of};
 ghost use Rattle.choice_setup.specs.SetUp.{drains, place_of, setup_of, setups_of, setups_from};
 
 use init_gen::Setup;
 use problem::Problem;
-use res_model::{PinUse, Signal, TableParts, TableSignal, Tables};
+use res_model::{PinUse, Signal, Tables};
 
 /// The places of the pins of nine ports.
 const PLACES: usize = 144;
 
-/// The signal of the table with this name.
-#[tactic(auto, unfolding(res_model::specs::Signals::signal_named))]
-fn signal_named<'t>(t: &'t TableParts, name: &[u8]) -> Option<&'t TableSignal>
-    ensures { option_copied result ≡ signal_named t.now name.now }
-{
-    t.signals
-        .as_slice()
-        .iter()
-        .find(|signal| signal.name.as_str().as_bytes() == name)
-}
-
-fn drains(t: &TableParts, name: &[u8]) -> bool
+fn drains(t: &Tables, name: &[u8]) -> bool
     ensures { result ≡ drains t.now name.now }
 {
-    match signal_named(t, name) {
+    match t.signal_named(name) {
         Some(signal) => signal.drain,
         None => false,
     }
@@ -44,7 +31,7 @@ fn place_of(t: &Tables, pin: u8) -> u8
     port * 16 + number
 }
 
-fn setup_of(t: &TableParts, s: &Signal, u: PinUse) -> Setup
+fn setup_of(t: &Tables, s: &Signal, u: PinUse) -> Setup
     ensures { result ≡ setup_of t.now s.now u }
 {
     Setup {
@@ -85,7 +72,7 @@ fn set_up(p: &Problem, at: &[u16], signal: u16) -> Placed
     let setter = &parts.signals.as_slice()[signal as usize];
     Placed {
         place: place_of(&parts.tables, used.pin),
-        setup: setup_of(parts.tables.parts(), setter, used),
+        setup: setup_of(&parts.tables, setter, used),
     }
 }
 

@@ -1,11 +1,11 @@
 //! Lines of a project's text that hold something fixed.
 ghost use Rattle.std.specs.Prelude.{◌≡◌, find, map, option_copied};
 ghost use Rattle.res_model.specs.Placed.{rows_named};
-ghost use Rattle.res_model.specs.Signals.{rows_of, signal_named};
+ghost use Rattle.res_model.specs.Signals.{rows_of};
 ghost use Rattle.explain.specs.Things.{has_no_rows, lists_pin, pin_line, true_line};
 
 use ioc_text::{Line, pin_number};
-use res_model::{PinUse, Signal, TableParts, TableSignal};
+use res_model::{PinUse, Signal, TableSignal, Tables};
 
 /// The number of a line that says `true`.
 pub(crate) fn true_line(line: Option<&Line>) -> Option<u32>
@@ -43,17 +43,6 @@ pub(crate) fn pin_line<'i>(lines: &[&'i Line], pin: &[u8]) -> Option<&'i Line>
     None
 }
 
-/// The signal of the table with this name.
-#[tactic(auto, unfolding(res_model::specs::Signals::signal_named))]
-fn signal_named<'t>(t: &'t TableParts, name: &[u8]) -> Option<&'t TableSignal>
-    ensures { option_copied result ≡ signal_named t.now name.now }
-{
-    t.signals
-        .as_slice()
-        .iter()
-        .find(|signal| signal.name.as_str().as_bytes() == name)
-}
-
 fn rows_of<'t>(signal: Option<&'t TableSignal>) -> &'t [PinUse]
     ensures { result.now ≡ rows_of (option_copied signal.entry) }
 {
@@ -65,8 +54,8 @@ fn rows_of<'t>(signal: Option<&'t TableSignal>) -> &'t [PinUse]
 
 /// Whether a signal stays where it is, since the table has no rows for it.
 #[tactic(auto, unfolding(res_model::specs::Placed::rows_named))]
-pub(crate) fn has_no_rows(t: &TableParts, signal: &Signal) -> bool
+pub(crate) fn has_no_rows(t: &Tables, signal: &Signal) -> bool
     ensures { result ≡ has_no_rows t.now signal.now }
 {
-    rows_of(signal_named(t, signal.name.as_str().as_bytes())).len() == 0
+    rows_of(t.signal_named(signal.name.as_str().as_bytes())).len() == 0
 }

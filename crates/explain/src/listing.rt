@@ -10,7 +10,7 @@ use explain_text::pin_name;
 use ioc_text::{Ioc, Line};
 use problem::Problem;
 use res_base::OutOfMemory;
-use res_model::{Free, Opts, Signal, TableParts};
+use res_model::{Free, Opts, Signal, Tables};
 use std::alloc::Global;
 
 /// Appends the needs.
@@ -108,7 +108,7 @@ fn put_lock_from(out: &mut Vec<Thing>, signal: usize, line: Option<u32>) -> Resu
 fn put_lock_at(
     alloc: Global,
     out: &mut Vec<Thing>,
-    t: &TableParts,
+    t: &Tables,
     ioc: &Ioc,
     i: usize,
     home: Option<u8>,
@@ -118,7 +118,7 @@ fn put_lock_at(
     match home {
         None => Ok(()),
         Some(home) => {
-            let line = lock_line(alloc, ioc, pin_name(t, home))?;
+            let line = lock_line(alloc, ioc, pin_name(t.parts(), home))?;
             put_lock_from(out, i, line)
         }
     }
@@ -128,7 +128,7 @@ fn put_lock_at(
 fn put_lock_of(
     alloc: Global,
     out: &mut Vec<Thing>,
-    t: &TableParts,
+    t: &Tables,
     ioc: &Ioc,
     i: usize,
     signal: &Signal,
@@ -153,7 +153,7 @@ fn signal_at(signals: &[Signal], i: usize) -> Option<&Signal>
 fn put_lock_if(
     alloc: Global,
     out: &mut Vec<Thing>,
-    t: &TableParts,
+    t: &Tables,
     ioc: &Ioc,
     i: usize,
     signal: Option<&Signal>,
@@ -171,7 +171,7 @@ fn put_lock_if(
 fn put_lock(
     alloc: Global,
     out: &mut Vec<Thing>,
-    t: &TableParts,
+    t: &Tables,
     ioc: &Ioc,
     signals: &[Signal],
     i: usize,
@@ -185,7 +185,7 @@ fn put_lock(
 fn put_locks(
     alloc: Global,
     out: &mut Vec<Thing>,
-    t: &TableParts,
+    t: &Tables,
     ioc: &Ioc,
     signals: &[Signal],
 ) -> Result<(), OutOfMemory>
@@ -200,7 +200,7 @@ fn put_locks(
 /// Appends the pin of a signal with this home.
 fn put_pin_at(
     out: &mut Vec<Thing>,
-    t: &TableParts,
+    t: &Tables,
     lines: &[&Line],
     i: usize,
     home: Option<u8>,
@@ -210,7 +210,7 @@ fn put_pin_at(
     let Some(home) = home else {
         return Ok(());
     };
-    match pin_line(lines, pin_name(t, home).as_bytes()) {
+    match pin_line(lines, pin_name(t.parts(), home).as_bytes()) {
         None => {}
         Some(line) => out.push(Thing::Pin {
             signal: i,
@@ -223,7 +223,7 @@ fn put_pin_at(
 /// Appends the pin of a signal.
 fn put_pin_of(
     out: &mut Vec<Thing>,
-    t: &TableParts,
+    t: &Tables,
     lines: &[&Line],
     i: usize,
     signal: &Signal,
@@ -240,7 +240,7 @@ fn put_pin_of(
 /// Appends the pin of a signal that is there.
 fn put_pin_if(
     out: &mut Vec<Thing>,
-    t: &TableParts,
+    t: &Tables,
     lines: &[&Line],
     i: usize,
     signal: Option<&Signal>,
@@ -257,7 +257,7 @@ fn put_pin_if(
 #[tactic(auto, unfolding(crate::specs::Things::pin_thing))]
 fn put_pin(
     out: &mut Vec<Thing>,
-    t: &TableParts,
+    t: &Tables,
     lines: &[&Line],
     signals: &[Signal],
     i: usize,
@@ -270,7 +270,7 @@ fn put_pin(
 /// Appends the pin of each signal.
 fn put_pins(
     out: &mut Vec<Thing>,
-    t: &TableParts,
+    t: &Tables,
     lines: &[&Line],
     signals: &[Signal],
 ) -> Result<(), OutOfMemory>
@@ -286,7 +286,7 @@ fn put_pins(
 #[tactic(auto, unfolding(crate::specs::Things::line_things))]
 fn line_things(
     alloc: Global,
-    t: &TableParts,
+    t: &Tables,
     ioc: &Ioc,
     signals: &[Signal],
 ) -> Result<Vec<Thing>, OutOfMemory>
@@ -308,7 +308,7 @@ pub fn things(alloc: Global, ioc: &Ioc, opts: &Opts, p: &Problem) -> Result<Vec<
 {
     let parts = p.parts();
     let mut out = option_things(alloc, opts)?;
-    let lines = line_things(alloc, parts.tables.parts(), ioc, parts.signals.as_slice())?;
+    let lines = line_things(alloc, &parts.tables, ioc, parts.signals.as_slice())?;
     out.extend_from_slice(lines.as_slice())?;
     Ok(out)
 }

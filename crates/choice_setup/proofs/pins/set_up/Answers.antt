@@ -17,6 +17,6 @@ returns-clause-setup c =
     let same : c.parts-parts.result.now ≡ p = c.parts-parts.ensures in
     let is : s ≡ get_or p.signals k s = subst (λ (xs : List Signal). s ≡ get_or xs k s) (c.as_slice.ensures ∙ ap (λ (x : ProblemParts). x.signals) same) c.index-as_slice-signal.is in
     let there : place ≡ place_of p.tables u.pin = c.place_of.ensures.place ∙ ap (λ (x : ProblemParts). place_of x.tables u.pin) same in
-    let made : c.setup_of.result ≡ setup_of p.tables s u = c.setup_of.ensures ∙ ap (λ (t : TableParts). setup_of t s u) (c.parts.ensures ∙ ap (λ (x : ProblemParts). x.tables) same) in
+    let made : c.setup_of.result ≡ setup_of p.tables s u = c.setup_of.ensures ∙ ap (λ (t : TableParts). setup_of t s u) (ap (λ (x : ProblemParts). x.tables) same) in
     ap (λ (x : Setup). set (setups_from p c.args.at.now (k + 1)) place (Some x)) made
     ∙ signal_set p c.args.at.now k place s u c.requires.signal is c.first_use-used.ensures.first there c.place_of.ensures.within
