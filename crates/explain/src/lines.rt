@@ -1,5 +1,5 @@
 //! Lines of a project's text that hold something fixed.
-ghost use Rattle.std.specs.Prelude.{◌≡◌, find, map, option_copied};
+ghost use Rattle.std.specs.Prelude.{◌≡◌, map, option_copied};
 ghost use Rattle.res_model.specs.Placed.{rows_named};
 ghost use Rattle.res_model.specs.Signals.{rows_of};
 ghost use Rattle.explain.specs.Things.{has_no_rows, lists_pin, pin_line, true_line};
