@@ -8,7 +8,7 @@ ghost use Rattle.solver.specs.Owed.{OfNodes, OfProblem, OfProof, accepted_text};
 ghost use Rattle.answers.specs.Said.{Says};
 ghost use Rattle.answers.specs.declared.answer.Status.TheVariants as status;
 
-use crate::least::too_wide;
+use crate::wide::too_wide;
 use answers::{Answer, Status, counts, says};
 use choice_rank::ShapeFault;
 use problem::{Part, Problem, build};
