@@ -2,11 +2,13 @@
 use Rattle.std.specs.Prelude.{◌≡◌, ℕ, List, [], ◌++◌, drop, Bool, true, false, ◌&&◌, Result, Ok, Err}
 use Rattle.reg_map.specs.Registers.{address}
 use Rattle.reg_machine.specs.Legal.{is_legal}
+use Rattle.reg_machine.specs.Power.{power_of}
 use Rattle.reg_machine.specs.Reset.{View}
 use Rattle.reg_machine.specs.Run.{Running, config_at}
 use Rattle.reg_machine.specs.Words.{word_of}
 use Rattle.reg_machine.specs.declared.op.Answer.{Answer}
 use Rattle.reg_machine.specs.declared.op.Op.{Op}
+use Rattle.reg_machine.specs.declared.op.Op.TheVariants as op
 use Rattle.reg_machine.specs.declared.op.Rule.{Rule}
 use Rattle.reg_machine.specs.declared.op.Stepped.{Stepped}
 use Rattle.reg_machine.specs.declared.op.Stepped.TheVariants as stepped
@@ -18,6 +20,7 @@ use Rattle.reg_trace.specs.Trace.{is_fine, is_over, lines_from, moment, moments,
 use Rattle.reg_trace.specs.declared.fault.TraceFault.{TraceFault}
 use Rattle.reg_trace.specs.declared.fault.TraceFault.TheVariants as fault
 use Rattle.reg_trace.specs.declared.lines.Seen.{Seen}
+use Rattle.reg_trace.specs.declared.turn.Effect.{Effect}
 use Rattle.reg_trace.specs.declared.turn.Turn.{Turn}
 use Rattle.res_model.specs.ClockValues.{source_of}
 
@@ -28,6 +31,11 @@ pub record IsTurn (before : View) (op : Op) (a : Answer) (fine : Bool) (after : 
   pub stepped : turn.stepped ≡ (moment a op before.state).stepped
   pub state : after.state ≡ (moment a op before.state).state
   pub fine_is : turn.fine ≡ (fine && is_fine (is_legal before.table before.want) (moment a op before.state))
+  pub legal_is : turn.legal ≡ is_legal after.table after.want after.state
+
+-- what is in effect
+abbrev pub effect_of : State → Effect
+effect_of s = record { source = source_of s.source; latency = s.latency; power = power_of s }
 
 abbrev pub forbidden_line : Rule → Bool → TraceLine
 forbidden_line rule fine = record { said = RunForbidden rule; legal = fine }
@@ -59,12 +67,12 @@ todo_after stepped.Waiting ops = ops
 todo_after (stepped.TimedOut name) ops = ops
 todo_after (stepped.Forbidden rule) ops = ops
 
--- whether the state behind a step is legal, where that of one that waits is known
-abbrev pub legal_after : Stepped → Bool → View → Bool
-legal_after stepped.Went flagged v = is_legal v.table v.want v.state
-legal_after stepped.Waiting flagged v = flagged
-legal_after (stepped.TimedOut name) flagged v = is_legal v.table v.want v.state
-legal_after (stepped.Forbidden rule) flagged v = is_legal v.table v.want v.state
+-- whether the state behind an access is legal, where that of the one before it is known
+abbrev pub legal_after : Op → Bool → View → Bool
+legal_after (op.Write r value) flagged v = is_legal v.table v.want v.state
+legal_after (op.Modify r clear set) flagged v = is_legal v.table v.want v.state
+legal_after (op.Read r) flagged v = flagged
+legal_after (op.Await r mask want polls name) flagged v = flagged
 
 -- a machine took a step, and its line was appended
 pub record IsShown (before : View) (op : Op) (a : Answer) (number : ℕ) (fine : Bool) (after : View) (turn : Turn) (old new : List ℕ) : Type 0 where

@@ -1,33 +1,27 @@
 //! Words in hexadecimal.
-ghost use Rattle.std.specs.Prelude.{◌≡◌, ◌++◌, ◌<◌, OnOk};
-ghost use Rattle.reg_trace.specs.Lines.{digit, digits_2, digits_4, digits_8};
+ghost use Rattle.std.specs.Prelude.{◌≡◌, ◌<◌};
+ghost use Rattle.reg_trace.specs.Lines.{digit, word_text};
 
-use std::alloc::AllocError;
-
-/// Appends the eight upper-case digits of a word.
-#[tactic(auto, unfolding(crate::specs::Lines::digits_8))]
-pub(crate) fn put_digits_8(out: &mut Vec<u8>, n: u32) -> Result<(), AllocError>
-    ensures { OnOk result (out.new.items ≡ out.old.items ++ digits_8 n) }
+/// A word behind a space and `0x`, in eight upper-case digits. It is one array, so that a line takes one append for it.
+#[tactic(auto, unfolding(crate::specs::Lines::word_text, crate::specs::Lines::digits_8, crate::specs::Lines::digits_4, crate::specs::Lines::digits_2))]
+pub(crate) fn word_text(n: u32) -> [u8; 11]
+    ensures { result ≡ word_text n }
 {
-    put_digits_4(out, n / 0x1_0000)?;
-    put_digits_4(out, n % 0x1_0000)
-}
-
-#[tactic(auto, unfolding(crate::specs::Lines::digits_4))]
-fn put_digits_4(out: &mut Vec<u8>, n: u32) -> Result<(), AllocError>
-    requires { n < 65536 }
-    ensures { OnOk result (out.new.items ≡ out.old.items ++ digits_4 n) }
-{
-    put_digits_2(out, n / 0x100)?;
-    put_digits_2(out, n % 0x100)
-}
-
-#[tactic(auto, unfolding(crate::specs::Lines::digits_2))]
-fn put_digits_2(out: &mut Vec<u8>, n: u32) -> Result<(), AllocError>
-    requires { n < 256 }
-    ensures { OnOk result (out.new.items ≡ out.old.items ++ digits_2 n) }
-{
-    out.extend_from_slice(&[digit(n / 0x10), digit(n % 0x10)])
+    let high = n / 0x1_0000;
+    let low = n % 0x1_0000;
+    [
+        b' ',
+        b'0',
+        b'x',
+        digit(high / 0x100 / 0x10),
+        digit(high / 0x100 % 0x10),
+        digit(high % 0x100 / 0x10),
+        digit(high % 0x100 % 0x10),
+        digit(low / 0x100 / 0x10),
+        digit(low / 0x100 % 0x10),
+        digit(low % 0x100 / 0x10),
+        digit(low % 0x100 % 0x10),
+    ]
 }
 
 #[tactic(auto, unfolding(crate::specs::Lines::digit))]

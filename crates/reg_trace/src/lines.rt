@@ -1,18 +1,19 @@
 //! The lines of a trace.
-ghost use Rattle.std.specs.Prelude.{◌≡◌, ◌++◌, OnOk};
+ghost use Rattle.std.specs.Prelude.{◌≡◌, ◌++◌, decimal, OnOk};
 ghost use Rattle.reg_map.specs.Registers.{IsRegister};
 ghost use Rattle.reg_machine.specs.Words.{IsOp};
-ghost use Rattle.reg_trace.specs.Lines.{OpWent, done_text, end_text, line_text, said_text, source_text, timeout_text, word_text};
+ghost use Rattle.reg_trace.specs.Lines.{OpWent, done_text, end_text, line_text, said_text, source_text, timeout_text};
 ghost use Rattle.reg_trace.specs.Trace.{register_of};
 ghost use Rattle.reg_trace.specs.Turn.{IsSeen, forbidden_line, seen_line, seen_text};
 
-use crate::hex::put_digits_8;
+use crate::hex::word_text;
 use crate::turn::Turn;
+use itoa::Buffer;
 use reg_machine::{Machine, Op, Rule, Stepped, Timeout};
 use reg_map::{Reg, addr};
-use res_base::{OutOfMemory, put_dec};
+use res_base::OutOfMemory;
 use res_model::Src;
-use std::alloc::{AllocError, Global};
+use std::alloc::AllocError;
 
 /// The register of an access.
 fn register_of(op: &Op) -> Reg
@@ -77,32 +78,30 @@ fn end_text(legal: bool) -> &'static [u8]
     if legal { b" legal\n" } else { b" illegal\n" }
 }
 
-/// Appends a word behind a space and `0x`.
-#[tactic(auto, unfolding(crate::specs::Lines::word_text))]
-fn put_word(out: &mut Vec<u8>, n: u32) -> Result<(), AllocError>
-    ensures { OnOk result (out.new.items ≡ out.old.items ++ word_text n) }
+/// Appends the digits of a number. They are made in a buffer on the stack, so that a line takes no memory but the text's.
+fn put_number(out: &mut Vec<u8>, n: u32) -> Result<(), AllocError>
+    ensures { OnOk result (out.new.items ≡ out.old.items ++ decimal n) }
 {
-    out.extend_from_slice(b" 0x")?;
-    put_digits_8(out, n)
+    let mut buffer = Buffer::new();
+    out.extend_from_slice(buffer.format(n).as_bytes())
 }
 
 /// Appends what is said of an access that was done.
 fn put_went(
-    alloc: Global,
     out: &mut Vec<u8>,
     number: u32,
     at: u32,
     word: u32,
     source: Src,
     latency: u8,
-) -> Result<(), OutOfMemory>
+) -> Result<(), AllocError>
     ensures { OnOk result (out.new.items ≡ out.old.items ++ said_text (OpWent number at word source latency)) }
 {
-    put_dec(alloc, out, u64::from(number))?;
-    put_word(out, at)?;
-    put_word(out, word)?;
+    put_number(out, number)?;
+    out.extend_from_slice(&word_text(at))?;
+    out.extend_from_slice(&word_text(word))?;
     out.extend_from_slice(source_text(source))?;
-    put_dec(alloc, out, u64::from(latency))
+    put_number(out, u32::from(latency))
 }
 
 /// What a line says of an access's register, and of the clock in effect.
@@ -129,24 +128,10 @@ pub(crate) fn seen_of(m: &Machine, op: &Op) -> Seen
 }
 
 /// Appends the line of an access that was done.
-fn put_went_line(
-    alloc: Global,
-    out: &mut Vec<u8>,
-    number: u32,
-    seen: Seen,
-    fine: bool,
-) -> Result<(), OutOfMemory>
+fn put_went_line(out: &mut Vec<u8>, number: u32, seen: Seen, fine: bool) -> Result<(), OutOfMemory>
     ensures { OnOk result (out.new.items ≡ out.old.items ++ line_text (seen_line number fine seen)) }
 {
-    put_went(
-        alloc,
-        out,
-        number,
-        seen.at,
-        seen.word,
-        seen.source,
-        seen.latency,
-    )?;
+    put_went(out, number, seen.at, seen.word, seen.source, seen.latency)?;
     out.extend_from_slice(end_text(fine))?;
     Ok(())
 }
@@ -161,23 +146,17 @@ fn put_timeout(out: &mut Vec<u8>, name: Timeout, fine: bool) -> Result<(), OutOf
 }
 
 #[tactic(auto, unfolding(crate::specs::Lines::forbidden_text))]
-fn put_forbidden(
-    alloc: Global,
-    out: &mut Vec<u8>,
-    rule: Rule,
-    fine: bool,
-) -> Result<(), OutOfMemory>
+fn put_forbidden(out: &mut Vec<u8>, rule: Rule, fine: bool) -> Result<(), OutOfMemory>
     ensures { OnOk result (out.new.items ≡ out.old.items ++ line_text (forbidden_line rule fine)) }
 {
     out.extend_from_slice(b"forbidden ")?;
-    put_dec(alloc, out, u64::from(rule.number()))?;
+    put_number(out, u32::from(rule.number()))?;
     out.extend_from_slice(end_text(fine))?;
     Ok(())
 }
 
 /// Appends the line of a step, if it has one.
 pub(crate) fn put_step(
-    alloc: Global,
     out: &mut Vec<u8>,
     number: u32,
     seen: Seen,
@@ -186,10 +165,10 @@ pub(crate) fn put_step(
     ensures { OnOk result (out.new.items ≡ out.old.items ++ seen_text number turn.fine seen turn.stepped) }
 {
     match turn.stepped {
-        Stepped::Went => put_went_line(alloc, out, number, seen, turn.fine),
+        Stepped::Went => put_went_line(out, number, seen, turn.fine),
         Stepped::Waiting => Ok(()),
         Stepped::TimedOut { name } => put_timeout(out, name, turn.fine),
-        Stepped::Forbidden { rule } => put_forbidden(alloc, out, rule, turn.fine),
+        Stepped::Forbidden { rule } => put_forbidden(out, rule, turn.fine),
     }
 }
 

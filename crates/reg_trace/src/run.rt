@@ -1,6 +1,7 @@
 //! A run from reset, traced.
 ghost use Rattle.std.specs.Prelude.{◌≡◌, ◌<◌, ◌^◌, ◌∷◌, drop, get_or, length, IfOk};
 ghost use Rattle.res_base.specs.Lists.{Each};
+ghost use Rattle.reg_machine.specs.Legal.{is_legal};
 ghost use Rattle.reg_machine.specs.Run.{silent};
 ghost use Rattle.reg_machine.specs.Words.{IsOp};
 ghost use Rattle.reg_trace.specs.Trace.{Gives, trace_of};
@@ -49,28 +50,28 @@ fn next_op(ops: &[Op]) -> Op
     ops[0]
 }
 
-/// One step, with its line if it has one.
+/// One step, with its line if it has one. What is known is whether the state before it is legal.
 fn shown_turn(
-    alloc: Global,
     m: &mut Machine,
     op: &Op,
     a: Answer,
     number: u32,
     fine: bool,
+    legal: bool,
     out: &mut Vec<u8>,
 ) -> Result<Turn, OutOfMemory>
-    requires { IsOp op.now }
+    requires op { IsOp op.now }
+    requires legal { legal ≡ is_legal m.old.table m.old.want m.old.state }
     ensures { IfOk result (λ turn. IsShown m.old op.now a number fine m.new turn out.old.items out.new.items) }
 {
-    let turn = take_turn(m, op, a, fine);
+    let turn = take_turn(m, op, a, fine, legal);
     let seen = seen_of(m, op);
-    put_step(alloc, out, number, seen, turn)?;
+    put_step(out, number, seen, turn)?;
     Ok(turn)
 }
 
 /// Appends what a run from a machine's state shows.
 fn put_run(
-    alloc: Global,
     m: &mut Machine,
     ops: &[Op],
     answers: &[Answer],
@@ -80,6 +81,7 @@ fn put_run(
     ensures { Traces m.old ops.now answers.now out.old.items out.new.items result }
 {
     let mut fine = m.legal();
+    let mut legal = fine;
     let mut todo = ops;
     let mut coming = answers;
     let mut number = 1u32;
@@ -89,12 +91,13 @@ fn put_run(
             return Err(TraceFault::Long);
         }
         let op = next_op(todo);
-        let turn = shown_turn(alloc, m, &op, next_answer(coming), number, fine, out)?;
+        let turn = shown_turn(m, &op, next_answer(coming), number, fine, legal, out)?;
         if !goes_on(turn.stepped) {
             return Ok(());
         }
         number = number_after(turn.stepped, number);
         fine = fine_after(turn.stepped, turn.fine);
+        legal = turn.legal;
         todo = todo_after(turn.stepped, todo);
         coming = later_answers(coming);
         left -= 1;
@@ -121,7 +124,7 @@ pub fn trace(
 {
     let mut machine = Machine::reset(alloc, t, want)?;
     let mut out = Vec::new(alloc);
-    match put_run(alloc, &mut machine, ops, answers, &mut out) {
+    match put_run(&mut machine, ops, answers, &mut out) {
         Ok(()) => Ok(out),
         Err(fault) => Err(fault),
     }

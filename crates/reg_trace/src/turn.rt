@@ -1,31 +1,68 @@
 //! One step of a run that is traced.
 ghost use Rattle.std.specs.Prelude.{◌≡◌, ◌+◌, ◌<◌, ◌^◌, ◌&&◌, drop};
+ghost use Rattle.reg_machine.specs.Legal.{is_legal};
 ghost use Rattle.reg_machine.specs.Words.{IsOp};
 ghost use Rattle.reg_trace.specs.Trace.{fine_after, goes_on, number_after};
-ghost use Rattle.reg_trace.specs.Turn.{IsTurn, legal_after, todo_after};
+ghost use Rattle.reg_trace.specs.Turn.{IsTurn, effect_of, legal_after, todo_after};
 
 use reg_machine::{Answer, Machine, Op, Stepped, flags_come_once};
+use res_model::Src;
 
-/// What a step did, and whether each state since the line before it is legal.
+/// What a step did, whether each state since the line before it is legal, and whether the one behind it is.
 #[derive(Clone, Copy, Debug)]
 pub(crate) struct Turn {
     pub stepped: Stepped,
     pub fine: bool,
+    pub legal: bool,
 }
 
-/// One step: the flags come, and then the access.
-pub(crate) fn take_turn(m: &mut Machine, op: &Op, a: Answer, fine: bool) -> Turn
-    requires { IsOp op.now }
+/// What flags may change of all that legality goes by: the source, the latency and the power step in effect.
+#[derive(Clone, Copy, Debug, PartialEq, Eq)]
+pub(crate) struct Effect {
+    pub source: Src,
+    pub latency: u8,
+    pub power: Option<u8>,
+}
+
+/// One step: the flags come, and then the access. What is known is whether the state before it is legal: a state is looked
+/// at only where something has changed that legality goes by.
+pub(crate) fn take_turn(m: &mut Machine, op: &Op, a: Answer, fine: bool, legal: bool) -> Turn
+    requires op { IsOp op.now }
+    requires legal { legal ≡ is_legal m.old.table m.old.want m.old.state }
     ensures { IsTurn m.old op.now a fine m.new result }
 {
     flags_come_once();
+    let before = effect_of(m);
     m.come(a);
-    let flagged = m.legal();
+    let flagged = is_legal_now(m, before, legal);
     let stepped = m.step(op, a);
-    let after = is_legal_after(m, stepped, flagged);
+    let after = is_legal_after(m, op, flagged);
     Turn {
         stepped,
         fine: all_hold(fine, flagged, after),
+        legal: after,
+    }
+}
+
+/// What is in effect.
+fn effect_of(m: &Machine) -> Effect
+    ensures { result ≡ effect_of m.now.state }
+{
+    Effect {
+        source: m.source(),
+        latency: m.latency(),
+        power: m.power_of(),
+    }
+}
+
+/// Whether a state is legal, where that is known for what was in effect before.
+fn is_legal_now(m: &Machine, before: Effect, legal: bool) -> bool
+    ensures { (effect_of m.now.state ≡ before → legal ≡ is_legal m.now.table m.now.want m.now.state) → result ≡ is_legal m.now.table m.now.want m.now.state }
+{
+    if effect_of(m) == before {
+        legal
+    } else {
+        m.legal()
     }
 }
 
@@ -36,14 +73,26 @@ fn all_hold(fine: bool, flagged: bool, after: bool) -> bool
     fine && (flagged && after)
 }
 
-/// Whether the state behind a step is legal. An await that goes on has changed its count of polls alone, so it is where the
-/// state before it is.
-fn is_legal_after(m: &Machine, stepped: Stepped, flagged: bool) -> bool
-    ensures { result ≡ legal_after stepped flagged m.now }
+/// Whether the state behind a step is legal. A read notes enables, and an await counts polls: legality goes by neither, so it
+/// is as in the state before.
+fn is_legal_after(m: &Machine, op: &Op, flagged: bool) -> bool
+    ensures { result ≡ legal_after op.now flagged m.now }
 {
-    match stepped {
-        Stepped::Waiting => flagged,
-        _ => m.legal(),
+    match *op {
+        Op::Write { reg: _, value: _ } => m.legal(),
+        Op::Modify {
+            reg: _,
+            clear: _,
+            set: _,
+        } => m.legal(),
+        Op::Read { reg: _ } => flagged,
+        Op::Await {
+            reg: _,
+            mask: _,
+            want: _,
+            polls: _,
+            name: _,
+        } => flagged,
     }
 }
 

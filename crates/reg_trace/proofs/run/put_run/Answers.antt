@@ -14,6 +14,7 @@ steps-init c = record {
   table = refl;
   want = refl;
   there = c.requires;
+  known = c.legal-fine.ensures.test;
   stands = begins c.args.m.now c.args.ops.now c.args.answers.now c.most-left.result c.legal-fine.result c.args.out.now.items c.legal-fine.ensures.test c.most-left.ensures.is c.most-left.ensures.value;
 }
 
@@ -34,6 +35,7 @@ steps-preserved c =
     record {
       table = shown.turn_is.table ∙ i.table;
       want = shown.turn_is.want ∙ i.want;
+      known = shown.turn_is.legal_is;
       there = subst (λ (os : List Op). Each IsOp os) (sym c.todo_after-todo.ensures) (ops_after turn.stepped l.todo.now i.there c.next_op-op.ensures.others);
       stands = moved _ _ _ _ _ _ _ _ _ _ c.number_after-number.result c.fine_after-fine.result c.todo_after-todo.result.now c.later_answers-coming.result.now went c.number_after-number.ensures c.fine_after-fine.ensures c.todo_after-todo.ensures c.later_answers-coming.ensures;
     }

@@ -12,6 +12,7 @@ invariant-steps l = record {
   table : l.m.table ≡ l.fn.m.table;
   want : l.m.want ≡ l.fn.m.want;
   there : Each IsOp l.todo;
+  known : l.legal ≡ is_legal l.m.table l.m.want l.m.state;
   stands : Stands (is_legal l.fn.m.table l.fn.m.want) (run_over l.fn.m l.ops l.answers) (l.fn.out.items ++ text_of (run_lines l.fn.m l.ops l.answers)) l.out.items l.number l.left l.fine l.todo l.coming l.m.state;
 }
 

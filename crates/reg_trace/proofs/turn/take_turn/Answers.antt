@@ -5,8 +5,9 @@ use Rattle.reg_trace.proofs.turn.take_turn.Goals as goal
 
 pub returns : goal.returns
 returns c =
-    subst (λ (b : Bool). IsTurn c.args.m.now c.args.op.now c.args.a c.args.fine c.step-stepped.new.self (record { stepped = c.step-stepped.result; fine = b })) (sym c.all_hold.ensures) (
-    turn_is c.args.m.now c.come.new.self c.step-stepped.new.self c.args.op.now c.args.a c.args.fine c.legal-flagged.result c.is_legal_after-after.result c.step-stepped.result
+    let later = c.is_legal_after-after.result in
+    subst (λ (b : Bool). IsTurn c.args.m.now c.args.op.now c.args.a c.args.fine c.step-stepped.new.self (record { stepped = c.step-stepped.result; fine = b; legal = later })) (sym c.all_hold.ensures) (
+    turn_is c.args.m.now c.come.new.self c.step-stepped.new.self c.args.op.now c.args.a c.effect_of-before.result c.args.fine c.args.legal c.is_legal_now-flagged.result later c.step-stepped.result
     c.come.ensures.state c.come.ensures.table c.come.ensures.want
     c.step-stepped.ensures.step (c.flags_come_once.ensures.step c.args.m.now.state c.args.op.now c.args.a) c.step-stepped.ensures.table c.step-stepped.ensures.want
-    c.legal-flagged.ensures.test c.is_legal_after-after.ensures)
+    c.effect_of-before.ensures c.requires.legal c.is_legal_now-flagged.ensures c.is_legal_after-after.ensures)
