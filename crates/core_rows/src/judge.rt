@@ -10,7 +10,6 @@ use project_reading::{Opened, open_project};
 use res_base::{Items, OutOfMemory, Text};
 use res_model::{Free, Opts, Project, Tables};
 use std::alloc::Global;
-use std::test::Fail;
 
 /// USART1_TX can be at PA9 and PB6, and I2C1_SCL at PB6 and PB8, as in the data sheet.
 fn table() -> &'static str {
@@ -50,31 +49,32 @@ fn built(alloc: Global, t: Tables, p: Project, opts: &Opts) -> Result<Problem, S
     build(alloc, t, p, opts, Part::PinsOnly)
 }
 
-fn judge_of(alloc: Global, problem: Problem) -> Result<PinJudge, Fail> {
+fn judge_of(alloc: Global, problem: Problem) -> Option<PinJudge> {
     if problem.parts().first != 0 {
-        return Err(Fail::from("clock variables"));
+        return None;
     }
-    Ok(PinJudge::new(alloc, problem)?)
+    PinJudge::new(alloc, problem).ok()
 }
 
-fn judge_over(alloc: Global, t: Tables, p: Project, opts: &Opts) -> Result<PinJudge, Fail>
+fn judge_over(alloc: Global, t: Tables, p: Project, opts: &Opts) -> Option<PinJudge>
     requires { IsRead t opts.now false p }
 {
     if p.hse_hz >= 1 << 32 {
-        return Err(Fail::from("the frequency of the HSE"));
+        return None;
     }
-    judge_of(alloc, built(alloc, t, p, opts)?)
+    judge_of(alloc, built(alloc, t, p, opts).ok()?)
 }
 
-/// Two signals that compete for PB6: variable 0 is USART1_TX at PB6 or PA9, and variable 1 is I2C1_SCL at PB6 or PB8.
-pub(crate) fn shared_pin(alloc: Global) -> Result<PinJudge, Fail> {
-    let opts = options(alloc)?;
+/// Two signals that compete for PB6: variable 0 is USART1_TX at PB6 or PA9, and variable 1 is I2C1_SCL at PB6 or PB8. There
+/// is no judge where memory ran out or a text was refused.
+pub(crate) fn shared_pin(alloc: Global) -> Option<PinJudge> {
+    let opts = options(alloc).ok()?;
     let text = project().as_bytes();
     if text.len() > 1000 {
-        return Err(Fail::from("a long project"));
+        return None;
     }
-    match open_project(alloc, table().as_bytes(), text, &opts, false)? {
-        Opened::Project { tables, project } => judge_over(alloc, tables, project, &opts),
-        Opened::Refused(_answer) => Err(Fail::from("table and project")),
+    match open_project(alloc, table().as_bytes(), text, &opts, false) {
+        Ok(Opened::Project { tables, project }) => judge_over(alloc, tables, project, &opts),
+        _ => None,
     }
 }

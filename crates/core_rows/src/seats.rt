@@ -4,9 +4,11 @@ ghost use Rattle.best_word.specs.Handles.{best_view, judge_of, IsSeatOf};
 
 use crate::judge::shared_pin;
 use best_word::{BestSeat, BestWord};
+use box_judge::PinJudge;
 use box_split::{BoxBuf, is_path, low, of_path};
+use res_base::OutOfMemory;
 use search_api::{Judge, Verdict};
-use std::test::Fail;
+use std::alloc::Global;
 
 /// Offers the rank of the choice that a path names, and answers whether it is legal; else it offers nothing.
 fn offer_at<J: Judge>(
@@ -38,34 +40,71 @@ fn offer_at<J: Judge>(
     }
 }
 
-// USART1_TX at PA9 and I2C1_SCL at PB6 has rank 6; USART1_TX at its home PB6 and I2C1_SCL at PB8 has rank 1.
-#[test]
-fn the_lesser_rank_stands(rt: HostRuntime) -> Result<(), Fail> {
-    let judge = shared_pin(rt.alloc())?;
-    let mut scratch = judge.scratch(rt.alloc())?;
-    let (word, mut seat) = BestWord::new(rt.alloc(), &judge)?;
-    let six = offer_at(&judge, &mut scratch, &word, &mut seat, 6);
-    let one = offer_at(&judge, &mut scratch, &word, &mut seat, 5);
-    let seen = word.see(&mut seat);
-    let least = word.close(seat);
-    assert!(rt; six && one);
-    assert_eq!(rt; seen, Some(1));
-    assert_eq!(rt; least, Some(1));
-    Ok(())
+/// What came of two paths that were offered to a new word: whether each was, what the seat sees then, and what the word holds
+/// at last.
+#[derive(Clone, Copy, PartialEq, Eq)]
+struct Offered {
+    first: bool,
+    second: bool,
+    seen: Option<u64>,
+    least: Option<u64>,
 }
 
-// Both signals at PB6 is not legal, and 8 is no path.
-#[test]
-fn what_is_not_legal_is_not_offered(rt: HostRuntime) -> Result<(), Fail> {
-    let judge = shared_pin(rt.alloc())?;
-    let mut scratch = judge.scratch(rt.alloc())?;
-    let (word, mut seat) = BestWord::new(rt.alloc(), &judge)?;
-    let both = offer_at(&judge, &mut scratch, &word, &mut seat, 4);
-    let none = offer_at(&judge, &mut scratch, &word, &mut seat, 8);
+fn offer_both(
+    alloc: Global,
+    judge: &PinJudge,
+    first: u128,
+    second: u128,
+) -> Result<Offered, OutOfMemory> {
+    let mut scratch = judge.scratch(alloc)?;
+    let (word, mut seat) = BestWord::new(alloc, judge)?;
+    let first = offer_at(judge, &mut scratch, &word, &mut seat, first);
+    let second = offer_at(judge, &mut scratch, &word, &mut seat, second);
     let seen = word.see(&mut seat);
     let least = word.close(seat);
-    assert!(rt; !both && !none);
-    assert_eq!(rt; seen, None);
-    assert_eq!(rt; least, None);
-    Ok(())
+    Ok(Offered {
+        first,
+        second,
+        seen,
+        least,
+    })
+}
+
+/// Whether this comes of two paths of a problem in which two signals compete for a pin.
+fn gives(alloc: Global, first: u128, second: u128, expected: Offered) -> bool {
+    let Some(judge) = shared_pin(alloc) else {
+        return false;
+    };
+    match offer_both(alloc, &judge, first, second) {
+        Ok(offered) => offered == expected,
+        Err(_) => false,
+    }
+}
+
+/// USART1_TX at PA9 and I2C1_SCL at PB6 has rank 6; USART1_TX at its home PB6 and I2C1_SCL at PB8 has rank 1.
+fn the_lesser_rank_stands(alloc: Global) -> bool {
+    let expected = Offered {
+        first: true,
+        second: true,
+        seen: Some(1),
+        least: Some(1),
+    };
+    gives(alloc, 6, 5, expected)
+}
+
+/// Both signals at PB6 is not legal, and 8 is no path.
+fn what_is_not_legal_is_not_offered(alloc: Global) -> bool {
+    let expected = Offered {
+        first: false,
+        second: false,
+        seen: None,
+        least: None,
+    };
+    gives(alloc, 4, 8, expected)
+}
+
+#[test]
+fn seats_of_a_word(rt: HostRuntime) {
+    assert!(rt; the_lesser_rank_stands(rt.alloc()));
+    assert!(rt; what_is_not_legal_is_not_offered(rt.alloc()));
 }

@@ -1,13 +1,13 @@
-//! The least limit that a clock choice breaks, and wait states. Expected numbers are worked by hand.
+//! The least limit that a clock choice breaks, and wait states. Expected numbers are worked by hand. A row is a function that
+//! answers whether all of its cases are as expected, and tests hold rows alone.
 ghost use Rattle.res_model.specs.Clock.{AreFacts, IsInRange};
 
 use clock_limits::broken;
-use mcu_tables::{TableFault, Tables, read_tables};
+use mcu_tables::{Tables, read_tables};
 use power_flash::{least_wait, prefetch};
 use res_base::Ratio;
 use res_model::{ClockChoice, Facts, Src};
 use std::alloc::Global;
-use std::test::Fail;
 
 /// The limits of an STM32F407, with two flash ranges.
 fn table() -> &'static str {
@@ -19,12 +19,12 @@ fn table_with_over() -> &'static str {
     r#"{"version":2,"names":["STM32F429V(E-G)Tx"],"package":"LQFP100","pins":["PH0-OSC_IN"],"signals":[{"name":"RCC_OSC_IN","use":"osc","at":["PH0-OSC_IN"]}],"hse_in":"RCC_OSC_IN","hse_out":"RCC_OSC_OUT","ips":[],"clock":{"m":[2,63],"n":[50,432],"p":[2,4],"q":[2,15],"hpre":[1,2],"ppre1":[1,2,4],"ppre2":[1,2],"vos":[1,2,3,4,5]},"limits":{"crystal":[4000000,26000000],"bypass":[1000000,50000000],"vco_in":[1000000,2000000],"vco":[100000000,432000000],"sysclk":168000000,"pclk1":42000000,"pclk2":84000000,"over":{"sysclk":180000000,"pclk1":45000000,"pclk2":90000000}},"scales":[{"vos":1,"max":168000000},{"vos":2,"max":144000000},{"vos":3,"max":120000000},{"vos":4,"max":180000000},{"vos":5,"max":168000000}],"flash":[{"from":2700,"to":3600,"prefetch":true,"rows":[30000000,60000000,90000000,120000000,150000000,180000000]}],"defaults":{"src":"HSI","psrc":"HSI","hpre":1,"p":2,"m":16,"n":192,"q":4,"ppre1":1,"ppre2":1,"vos":1,"hse":8000000}}"#
 }
 
-fn tables(alloc: Global) -> Result<Tables, TableFault> {
-    read_tables(alloc, table().as_bytes())
+fn tables(alloc: Global) -> Option<Tables> {
+    read_tables(alloc, table().as_bytes()).ok()
 }
 
-fn tables_with_over(alloc: Global) -> Result<Tables, TableFault> {
-    read_tables(alloc, table_with_over().as_bytes())
+fn tables_with_over(alloc: Global) -> Option<Tables> {
+    read_tables(alloc, table_with_over().as_bytes()).ok()
 }
 
 const QUIET: Facts = Facts {
@@ -75,15 +75,6 @@ const FULL: ClockChoice = ClockChoice {
     ..RESET
 };
 
-/// The least limit that a choice breaks under the table.
-fn limit(alloc: Global, f: &Facts, c: &ClockChoice) -> Result<Option<u8>, Fail>
-    requires choice { IsInRange c.now }
-    requires facts { AreFacts f.now }
-{
-    let t = tables(alloc)?;
-    Ok(broken(&t, f, c))
-}
-
 /// 180 MHz from HSI, at scale 1 with over-drive.
 const OVER: ClockChoice = ClockChoice {
     src: Src::Pll,
@@ -94,145 +85,156 @@ const OVER: ClockChoice = ClockChoice {
     ..RESET
 };
 
-/// The least limit that a choice breaks under the table of a part with over-drive.
-fn limit_with_over(alloc: Global, c: &ClockChoice) -> Result<Option<u8>, Fail>
+/// Whether this is the least limit that a choice breaks under the table.
+fn breaks(alloc: Global, f: &Facts, c: &ClockChoice, limit: Option<u8>) -> bool
+    requires choice { IsInRange c.now }
+    requires facts { AreFacts f.now }
+{
+    match tables(alloc) {
+        Some(t) => broken(&t, f, c) == limit,
+        None => false,
+    }
+}
+
+/// Whether this is the least limit that a choice breaks under the table of a part with over-drive.
+fn breaks_with_over(alloc: Global, c: &ClockChoice, limit: Option<u8>) -> bool
     requires { IsInRange c.now }
 {
-    let t = tables_with_over(alloc)?;
-    Ok(broken(&t, &QUIET, c))
+    match tables_with_over(alloc) {
+        Some(t) => broken(&t, &QUIET, c) == limit,
+        None => false,
+    }
 }
 
-#[test]
-fn limits_are_those_of_the_power_step(rt: HostRuntime) -> Result<(), Fail> {
-    assert_eq!(rt; limit_with_over(rt.alloc(), &OVER)?, None);
+fn a_step_has_its_own_limit(alloc: Global) -> bool {
     let plain = ClockChoice { vos: 1, ..OVER };
-    assert_eq!(rt; limit_with_over(rt.alloc(), &plain)?, Some(6), "180 MHz");
     let scale_2 = ClockChoice { vos: 5, ..OVER };
-    assert_eq!(rt;
-        limit_with_over(rt.alloc(), &scale_2)?,
-        Some(7),
-        "the step's own"
-    );
     let slower = ClockChoice { n: 336, ..scale_2 };
-    assert_eq!(rt; limit_with_over(rt.alloc(), &slower)?, None, "168 MHz");
-    let bus = ClockChoice { ppre1: 2, ..OVER };
-    assert_eq!(rt; limit_with_over(rt.alloc(), &bus)?, Some(8), "90 MHz");
-    let bus = ClockChoice { ppre2: 1, ..OVER };
-    assert_eq!(rt; limit_with_over(rt.alloc(), &bus)?, Some(9), "180 MHz");
-    Ok(())
+    breaks_with_over(alloc, &OVER, None)
+        // 180 MHz, without over-drive and at the other step
+        && breaks_with_over(alloc, &plain, Some(6))
+        && breaks_with_over(alloc, &scale_2, Some(7))
+        // 168 MHz
+        && breaks_with_over(alloc, &slower, None)
 }
 
-#[test]
-fn scale_3_has_a_limit_of_its_own(rt: HostRuntime) -> Result<(), Fail> {
+/// PCLK1 would be 90 MHz, and PCLK2 180 MHz.
+fn buses_are_bounded_beside_over_drive(alloc: Global) -> bool {
+    let first = ClockChoice { ppre1: 2, ..OVER };
+    let second = ClockChoice { ppre2: 1, ..OVER };
+    breaks_with_over(alloc, &first, Some(8)) && breaks_with_over(alloc, &second, Some(9))
+}
+
+/// 120 MHz and 121 MHz.
+fn scale_3_has_a_limit_of_its_own(alloc: Global) -> bool {
     let most = ClockChoice {
         n: 240,
         vos: 3,
         ..OVER
     };
-    assert_eq!(rt; limit_with_over(rt.alloc(), &most)?, None, "120 MHz");
     let more = ClockChoice { n: 242, ..most };
-    assert_eq!(rt; limit_with_over(rt.alloc(), &more)?, Some(7), "121 MHz");
-    Ok(())
+    breaks_with_over(alloc, &most, None) && breaks_with_over(alloc, &more, Some(7))
 }
 
-#[test]
-fn over_drive_is_beside_the_pll_alone(rt: HostRuntime) -> Result<(), Fail> {
+fn over_drive_is_beside_the_pll_alone(alloc: Global) -> bool {
     let idle = ClockChoice { vos: 4, ..RESET };
-    assert_eq!(rt; limit_with_over(rt.alloc(), &idle)?, Some(17));
     let scale_2 = ClockChoice { vos: 5, ..RESET };
-    assert_eq!(rt; limit_with_over(rt.alloc(), &scale_2)?, Some(17));
     let third = ClockChoice { vos: 3, ..RESET };
-    assert_eq!(rt; limit_with_over(rt.alloc(), &third)?, None);
-    Ok(())
+    breaks_with_over(alloc, &idle, Some(17))
+        && breaks_with_over(alloc, &scale_2, Some(17))
+        && breaks_with_over(alloc, &third, None)
 }
 
 #[test]
-fn the_state_after_reset_needs_a_flash_range(rt: HostRuntime) -> Result<(), Fail> {
-    assert_eq!(rt; limit(rt.alloc(), &QUIET, &RESET)?, None);
+fn limits_are_those_of_the_power_step(rt: HostRuntime) {
+    assert!(rt; a_step_has_its_own_limit(rt.alloc()));
+    assert!(rt; buses_are_bounded_beside_over_drive(rt.alloc()));
+    assert!(rt; scale_3_has_a_limit_of_its_own(rt.alloc()));
+    assert!(rt; over_drive_is_beside_the_pll_alone(rt.alloc()));
+}
+
+fn the_state_after_reset_needs_a_flash_range(alloc: Global) -> bool {
     let low = Facts { vdd: 1700, ..QUIET };
-    assert_eq!(rt; limit(rt.alloc(), &low, &RESET)?, Some(13));
-    Ok(())
+    breaks(alloc, &QUIET, &RESET, None) && breaks(alloc, &low, &RESET, Some(13))
 }
 
-#[test]
-fn hertz_above_a_limit_count_to_the_last_part(rt: HostRuntime) -> Result<(), Fail> {
+/// PCLK1 is seven eighths of a hertz above 42,000,000.
+fn hertz_above_a_limit_count_to_the_last_part(alloc: Global) -> bool {
     let f = Facts {
         hse_hz: 48_000_001,
         osc_in: true,
         bypass: true,
         ..QUIET
     };
-    // PCLK1 is seven eighths of a hertz above 42,000,000
     let c = ClockChoice {
         m: 48,
         n: 168,
         ppre1: 2,
         ..FULL
     };
-    assert_eq!(rt; limit(rt.alloc(), &f, &c)?, Some(8));
-    Ok(())
+    breaks(alloc, &f, &c, Some(8))
 }
 
-#[test]
-fn a_full_tree_with_usb_breaks_no_limit(rt: HostRuntime) -> Result<(), Fail> {
-    assert_eq!(rt; limit(rt.alloc(), &USB, &FULL)?, None);
+fn a_full_tree_with_usb_breaks_no_limit(alloc: Global) -> bool {
     let slow = ClockChoice { q: 8, ..FULL };
-    assert_eq!(rt; limit(rt.alloc(), &USB, &slow)?, Some(10));
-    Ok(())
+    breaks(alloc, &USB, &FULL, None) && breaks(alloc, &USB, &slow, Some(10))
 }
 
-#[test]
-fn the_hse_needs_its_input_only_where_it_is_used(rt: HostRuntime) -> Result<(), Fail> {
+fn the_hse_needs_its_input_only_where_it_is_used(alloc: Global) -> bool {
     let idle = ClockChoice {
         psrc: Src::Hse,
         ..RESET
     };
-    assert_eq!(rt; limit(rt.alloc(), &QUIET, &idle)?, None);
     let used = ClockChoice {
         src: Src::Hse,
         ..RESET
     };
-    assert_eq!(rt; limit(rt.alloc(), &QUIET, &used)?, Some(3));
-    Ok(())
-}
-
-/// The least wait states at 3.3 V for so many hertz.
-fn wait(alloc: Global, hertz: u32) -> Result<Option<u8>, Fail> {
-    let t = tables(alloc)?;
-    Ok(least_wait(&t, 3300, &Ratio::whole(u64::from(hertz))))
+    breaks(alloc, &QUIET, &idle, None) && breaks(alloc, &QUIET, &used, Some(3))
 }
 
 #[test]
-fn the_first_row_that_covers_gives_the_wait_states(rt: HostRuntime) -> Result<(), Fail> {
-    for (hertz, states) in [
-        (16_000_000, Some(0)),
-        (30_000_000, Some(0)),
-        (30_000_001, Some(1)),
-        (120_000_000, Some(3)),
-        (168_000_001, None),
-    ] {
-        assert_eq!(rt; wait(rt.alloc(), hertz)?, states, "at {hertz}");
-    }
-    Ok(())
+fn the_least_limit_is_told(rt: HostRuntime) {
+    assert!(rt; the_state_after_reset_needs_a_flash_range(rt.alloc()));
+    assert!(rt; hertz_above_a_limit_count_to_the_last_part(rt.alloc()));
+    assert!(rt; a_full_tree_with_usb_breaks_no_limit(rt.alloc()));
+    assert!(rt; the_hse_needs_its_input_only_where_it_is_used(rt.alloc()));
 }
 
-/// Whether a supply voltage in millivolts is in a range. Both allow prefetch.
-fn is_in_range(alloc: Global, vdd: u32) -> Result<bool, Fail> {
-    let t = tables(alloc)?;
-    Ok(prefetch(&t, vdd))
+/// Whether these are the least wait states at 3.3 V for so many hertz.
+fn waits(alloc: Global, hertz: u32, states: Option<u8>) -> bool {
+    match tables(alloc) {
+        Some(t) => least_wait(&t, 3300, &Ratio::whole(u64::from(hertz))) == states,
+        None => false,
+    }
+}
+
+fn the_first_row_that_covers_gives_the_wait_states(alloc: Global) -> bool {
+    waits(alloc, 16_000_000, Some(0))
+        && waits(alloc, 30_000_000, Some(0))
+        && waits(alloc, 30_000_001, Some(1))
+        && waits(alloc, 120_000_000, Some(3))
+        && waits(alloc, 168_000_001, None)
+}
+
+/// Whether a supply voltage in millivolts is within a range, or not, as expected. Both ranges allow prefetch.
+fn is_within(alloc: Global, vdd: u32, within: bool) -> bool {
+    match tables(alloc) {
+        Some(t) => prefetch(&t, vdd) == within,
+        None => false,
+    }
+}
+
+fn both_ends_of_a_range_are_within_it(alloc: Global) -> bool {
+    is_within(alloc, 1799, false)
+        && is_within(alloc, 1800, true)
+        && is_within(alloc, 2099, true)
+        && is_within(alloc, 2100, false)
+        && is_within(alloc, 3600, true)
+        && is_within(alloc, 3601, false)
 }
 
 #[test]
-fn both_ends_of_a_range_are_within_it(rt: HostRuntime) -> Result<(), Fail> {
-    for (vdd, within) in [
-        (1799, false),
-        (1800, true),
-        (2099, true),
-        (2100, false),
-        (3600, true),
-        (3601, false),
-    ] {
-        assert_eq!(rt; is_in_range(rt.alloc(), vdd)?, within, "at {vdd}");
-    }
-    Ok(())
+fn flash_has_ranges_and_rows(rt: HostRuntime) {
+    assert!(rt; the_first_row_that_covers_gives_the_wait_states(rt.alloc()));
+    assert!(rt; both_ends_of_a_range_are_within_it(rt.alloc()));
 }

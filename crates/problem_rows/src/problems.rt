@@ -1,4 +1,5 @@
-//! Problems of a small table: what is too wide, and which choices meet the limits.
+//! Problems of a small table: what is too wide, and which choices meet the limits. Tests hold what a row answers, and no
+//! problem.
 ghost use Rattle.std.specs.Prelude.{◌<◌, ◌^◌, true, IfOk};
 ghost use Rattle.choice_rank.specs.Choices.{IsChoice};
 ghost use Rattle.ioc_project.specs.Read.{IsRead};
@@ -6,12 +7,11 @@ ghost use Rattle.ioc_project.specs.Read.{IsRead};
 use choice_rank::ShapeFault;
 use ioc_project::read_project;
 use ioc_text::{Ioc, read_ioc};
-use mcu_tables::{TableFault, Tables, read_tables};
+use mcu_tables::{Tables, read_tables};
 use problem::{Part, Problem, build};
 use res_base::{Items, OutOfMemory, Text};
 use res_model::{ClockChoice, Free, Mode, Opts, PinUse, Project, Src};
 use std::alloc::Global;
-use std::test::Fail;
 
 /// Two pins, and a signal that can be at each. PCLK1 is SYSCLK or half of it, and every other divider has one value.
 fn table() -> &'static str {
@@ -46,16 +46,16 @@ fn options(alloc: Global, count: usize) -> Result<Opts, OutOfMemory> {
     })
 }
 
-fn tables(alloc: Global) -> Result<Tables, TableFault> {
-    read_tables(alloc, table().as_bytes())
+fn tables(alloc: Global) -> Option<Tables> {
+    read_tables(alloc, table().as_bytes()).ok()
 }
 
-fn ioc(alloc: Global) -> Result<Ioc, Fail> {
+fn ioc(alloc: Global) -> Option<Ioc> {
     let text = lines().as_bytes();
     if text.len() > 1000 {
-        return Err(Fail::from("a long text"));
+        return None;
     }
-    Ok(read_ioc(alloc, text)?)
+    read_ioc(alloc, text).ok()
 }
 
 /// The problem of a project that was read, or why there is none.
@@ -75,20 +75,46 @@ fn built(
     }
 }
 
-/// The problem of so many needs, or why there is none.
-fn made(alloc: Global, count: usize, part: Part) -> Result<Result<Problem, ShapeFault>, Fail> {
-    let opts = options(alloc, count)?;
-    let ioc = ioc(alloc)?;
-    let t = tables(alloc)?;
-    let p = read_project(alloc, &t, &ioc, &opts, true)?;
-    if p.hse_hz >= 4_294_967_296 {
-        return Err(Fail::from("the frequency of the HSE"));
+/// The same, where the frequency of the HSE is a possible one.
+fn with_hertz(
+    alloc: Global,
+    t: Tables,
+    p: Project,
+    opts: &Opts,
+    part: Part,
+) -> Option<Result<Problem, ShapeFault>>
+    requires { IsRead t opts.now true p }
+{
+    if p.hse_hz < 4_294_967_296 {
+        Some(built(alloc, t, p, opts, part))
+    } else {
+        None
     }
-    Ok(built(alloc, t, p, &opts, part))
 }
 
-fn problem(alloc: Global, count: usize, part: Part) -> Result<Problem, Fail> {
-    Ok(made(alloc, count, part)??)
+/// The problem of a project of these lines, or why there is none.
+fn of_lines(
+    alloc: Global,
+    t: Tables,
+    lines: &Ioc,
+    opts: &Opts,
+    part: Part,
+) -> Option<Result<Problem, ShapeFault>> {
+    match read_project(alloc, &t, lines, opts, true) {
+        Ok(p) => with_hertz(alloc, t, p, opts, part),
+        Err(_) => None,
+    }
+}
+
+/// The problem of so many needs, or why there is none.
+fn made(alloc: Global, count: usize, part: Part) -> Option<Result<Problem, ShapeFault>> {
+    let opts = options(alloc, count).ok()?;
+    let ioc = ioc(alloc)?;
+    of_lines(alloc, tables(alloc)?, &ioc, &opts, part)
+}
+
+fn problem(alloc: Global, count: usize, part: Part) -> Option<Problem> {
+    made(alloc, count, part)?.ok()
 }
 
 /// The choice of a rank.
@@ -102,69 +128,70 @@ fn choice(alloc: Global, p: &Problem, rank: u64) -> Result<Vec<u16>, OutOfMemory
 }
 
 /// Sixty-three of them have 2^63 choices, which cost nothing, so all their ranks are below 2^63.
-#[test]
-fn sixty_four_variables_of_two_values_are_too_wide(rt: HostRuntime) -> Result<(), Fail> {
-    let found = made(rt.alloc(), 64, Part::PinsOnly)?;
-    assert!(rt; matches!(&found, Err(ShapeFault::TooWide { variable: 63 })));
-    Ok(())
+fn sixty_four_variables_of_two_values_are_too_wide(alloc: Global) -> bool {
+    match made(alloc, 64, Part::PinsOnly) {
+        Some(Err(ShapeFault::TooWide { variable })) => variable == 63,
+        _ => false,
+    }
 }
 
 /// Whether the choice of a rank meets the limits of a problem.
-fn fits(alloc: Global, count: usize, part: Part, rank: u64) -> Result<bool, Fail> {
+fn fits(alloc: Global, count: usize, part: Part, rank: u64) -> Option<bool> {
     let p = problem(alloc, count, part)?;
-    let at = choice(alloc, &p, rank)?;
-    Ok(p.meets(at.as_slice()))
+    let at = choice(alloc, &p, rank).ok()?;
+    Some(p.meets(at.as_slice()))
 }
 
 /// Two needs at two pins: their positions are the digits of a rank to the base 2.
-#[test]
-fn two_signals_on_one_pin_do_not_fit(rt: HostRuntime) -> Result<(), Fail> {
-    let same = fits(rt.alloc(), 2, Part::PinsOnly, 0)?;
-    let apart = fits(rt.alloc(), 2, Part::PinsOnly, 1)?;
-    assert!(rt; !same && apart);
-    Ok(())
+fn two_signals_on_one_pin_do_not_fit(alloc: Global) -> bool {
+    let same = fits(alloc, 2, Part::PinsOnly, 0);
+    let apart = fits(alloc, 2, Part::PinsOnly, 1);
+    same == Some(false) && apart == Some(true)
 }
 
 /// The use of the second of two needs in the choice of a rank.
-fn second_use(alloc: Global, rank: u64) -> Result<PinUse, Fail> {
+fn second_use(alloc: Global, rank: u64) -> Option<PinUse> {
     let p = problem(alloc, 2, Part::PinsOnly)?;
     if p.parts().signals.len() < 2 {
-        return Err(Fail::from("fewer than two signals"));
+        return None;
     }
-    let at = choice(alloc, &p, rank)?;
-    Ok(p.use_of(at.as_slice(), 1))
+    let at = choice(alloc, &p, rank).ok()?;
+    Some(p.use_of(at.as_slice(), 1))
 }
 
-#[test]
-fn the_second_signal_is_at_the_second_pin(rt: HostRuntime) -> Result<(), Fail> {
-    let found = second_use(rt.alloc(), 1)?;
-    assert!(rt; found == row(1));
-    Ok(())
+fn the_second_signal_is_at_the_second_pin(alloc: Global) -> bool {
+    second_use(alloc, 1) == Some(row(1))
 }
 
 /// All homes, which cost nothing, and the choice whose PCLK1 is SYSCLK, at a cost of 1 and index 1 of 12.
-#[test]
-fn pclk1_above_its_limit_does_not_fit(rt: HostRuntime) -> Result<(), Fail> {
-    let home = fits(rt.alloc(), 0, Part::Whole, 0)?;
-    let fast = fits(rt.alloc(), 0, Part::Whole, 13)?;
-    assert!(rt; home && !fast);
-    Ok(())
+fn pclk1_above_its_limit_does_not_fit(alloc: Global) -> bool {
+    let home = fits(alloc, 0, Part::Whole, 0);
+    let fast = fits(alloc, 0, Part::Whole, 13);
+    home == Some(true) && fast == Some(false)
 }
 
 /// The clocks of the choice of a rank.
-fn clocks(alloc: Global, rank: u64) -> Result<ClockChoice, Fail> {
+fn clocks(alloc: Global, rank: u64) -> Option<ClockChoice> {
     let p = problem(alloc, 0, Part::Whole)?;
     if p.parts().first == 0 {
-        return Err(Fail::from("no clocks"));
+        return None;
     }
-    let at = choice(alloc, &p, rank)?;
-    Ok(p.clock_of(at.as_slice()))
+    let at = choice(alloc, &p, rank).ok()?;
+    Some(p.clock_of(at.as_slice()))
+}
+
+fn the_clocks_of_a_choice_are_its_values(alloc: Global) -> bool {
+    match clocks(alloc, 13) {
+        Some(c) => c.src == Src::Pll && c.psrc == Src::Hsi && c.n == 168 && c.ppre1 == 1,
+        None => false,
+    }
 }
 
 #[test]
-fn the_clocks_of_a_choice_are_its_values(rt: HostRuntime) -> Result<(), Fail> {
-    let found = clocks(rt.alloc(), 13)?;
-    let sources = found.src == Src::Pll && found.psrc == Src::Hsi;
-    assert!(rt; sources && found.n == 168 && found.ppre1 == 1);
-    Ok(())
+fn problems_of_a_small_table(rt: HostRuntime) {
+    assert!(rt; sixty_four_variables_of_two_values_are_too_wide(rt.alloc()));
+    assert!(rt; two_signals_on_one_pin_do_not_fit(rt.alloc()));
+    assert!(rt; the_second_signal_is_at_the_second_pin(rt.alloc()));
+    assert!(rt; pclk1_above_its_limit_does_not_fit(rt.alloc()));
+    assert!(rt; the_clocks_of_a_choice_are_its_values(rt.alloc()));
 }

@@ -1,4 +1,5 @@
-//! Runs of accesses, without clauses, so that no test carries the facts of a table.
+//! Runs of accesses, without clauses, so that no test carries the facts of a table. There is no answer where memory ran
+//! out or a table was refused.
 ghost use Rattle.std.specs.Prelude.{◌≡◌, true};
 ghost use Rattle.reg_map.specs.Registers.{IsRegister};
 ghost use Rattle.reg_machine.specs.Words.{IsOp};
@@ -6,13 +7,12 @@ ghost use Rattle.init_gen.specs.Good.{IsSettable};
 
 use crate::settings::table;
 use init_gen::{Setting, generate, target};
-use mcu_tables::{TableFault, read_tables};
+use mcu_tables::read_tables;
 use reg_machine::{Answer, Machine, Op, Stepped};
 use reg_map::Reg;
-use res_base::{OutOfMemory, Ratio};
+use res_base::Ratio;
 use res_model::{Mode, Nodes, Src, Tables};
 use std::alloc::Global;
-use std::test::Fail;
 
 /// How a run went: what the last step answered, how many steps it took, and whether each state was legal.
 #[derive(Clone, Copy, Debug, PartialEq, Eq)]
@@ -39,26 +39,35 @@ pub(crate) struct Seen {
 }
 
 /// The table of a version.
-fn tables(alloc: Global, version: u8) -> Result<Tables, TableFault> {
-    read_tables(alloc, table(version).as_bytes())
+fn tables(alloc: Global, version: u8) -> Option<Tables> {
+    read_tables(alloc, table(version).as_bytes()).ok()
 }
 
 /// The machine after reset, with the table and the target of a setting.
-fn machine(alloc: Global, s: &Setting) -> Result<Machine, Fail> {
+fn machine(alloc: Global, s: &Setting) -> Option<Machine> {
     let tables = tables(alloc, s.version)?;
     let want = target(s);
     if want.facts.hse_hz < 0x1_0000_0000 {
-        Ok(Machine::reset(alloc, &tables, &want)?)
+        Machine::reset(alloc, &tables, &want).ok()
     } else {
-        Err(Fail::from("the frequency of the HSE"))
+        None
     }
 }
 
 /// The accesses that a setting gets.
-pub(crate) fn accesses(alloc: Global, s: &Setting) -> Result<Vec<Op>, OutOfMemory>
+fn accesses(alloc: Global, s: &Setting) -> Option<Vec<Op>>
     requires { IsSettable s.now }
 {
-    generate(alloc, s)
+    generate(alloc, s).ok()
+}
+
+/// How many accesses a setting gets, and whether they begin with these.
+pub(crate) fn begins(alloc: Global, s: &Setting, first: &[Op]) -> Option<(usize, bool)>
+    requires { IsSettable s.now }
+{
+    let ops = accesses(alloc, s)?;
+    let begins = first.len() <= ops.len() && &ops.as_slice()[..first.len()] == first;
+    Some((ops.len(), begins))
 }
 
 fn is_there(r: Reg) -> bool
@@ -225,10 +234,10 @@ pub(crate) fn after(
     ops: &[Op],
     a: Answer,
     places: [u8; 4],
-) -> Result<Seen, Fail> {
+) -> Option<Seen> {
     let mut m = machine(alloc, s)?;
     let ran = run(&mut m, ops, a);
-    Ok(look(&m, ran, places))
+    Some(look(&m, ran, places))
 }
 
 /// What the last of some accesses answers from reset, a step each, with the same answer of the flags at each.
@@ -238,17 +247,17 @@ pub(crate) fn told(
     before: &[Op],
     a: Answer,
     op: Op,
-) -> Result<Stepped, Fail> {
+) -> Option<Stepped> {
     let mut m = machine(alloc, s)?;
     steps(&mut m, before, a);
-    Ok(stepped(&mut m, &op, a))
+    Some(stepped(&mut m, &op, a))
 }
 
 /// RCC_CFGR behind some accesses from reset, a step each.
-pub(crate) fn cfgr_behind(alloc: Global, s: &Setting, ops: &[Op], a: Answer) -> Result<u32, Fail> {
+pub(crate) fn cfgr_behind(alloc: Global, s: &Setting, ops: &[Op], a: Answer) -> Option<u32> {
     let mut m = machine(alloc, s)?;
     steps(&mut m, ops, a);
-    Ok(configured(&m))
+    Some(configured(&m))
 }
 
 fn flags_come(m: &mut Machine, a: Answer) {
@@ -256,7 +265,7 @@ fn flags_come(m: &mut Machine, a: Answer) {
 }
 
 /// What is seen where no flag comes at these accesses, and then those that are answered.
-pub(crate) fn after_flags(alloc: Global, s: &Setting, ops: &[Op], a: Answer) -> Result<Seen, Fail> {
+pub(crate) fn after_flags(alloc: Global, s: &Setting, ops: &[Op], a: Answer) -> Option<Seen> {
     let mut m = machine(alloc, s)?;
     let none = Answer {
         hse: false,
@@ -268,11 +277,11 @@ pub(crate) fn after_flags(alloc: Global, s: &Setting, ops: &[Op], a: Answer) -> 
     };
     let ran = run(&mut m, ops, none);
     flags_come(&mut m, a);
-    Ok(look(&m, ran, [0; 4]))
+    Some(look(&m, ran, [0; 4]))
 }
 
 /// What is seen behind the accesses that the setting gets.
-pub(crate) fn set_up(alloc: Global, s: &Setting, a: Answer, places: [u8; 4]) -> Result<Seen, Fail>
+pub(crate) fn set_up(alloc: Global, s: &Setting, a: Answer, places: [u8; 4]) -> Option<Seen>
     requires { IsSettable s.now }
 {
     let ops = accesses(alloc, s)?;

@@ -1,13 +1,14 @@
-//! Expected values are read off RM0090 and the data sheet, or worked out by hand.
+//! Whole runs. Expected values are read off RM0090 and the data sheet, or worked out by hand. A row is a function that
+//! answers whether all is as expected, and tests hold rows alone.
 ghost use Rattle.std.specs.Prelude.{◌<◌};
 
-use crate::runs::{Ran, accesses, after, after_flags, set_up};
+use crate::runs::{Ran, Seen, after, after_flags, begins, set_up};
 use crate::settings::{board, clock_pin, over, third_scale};
-use reg_machine::{Answer, Op, Rule, Stepped, Timeout};
+use init_gen::Setting;
+use reg_machine::{Answer, Op, Stepped, Timeout};
 use reg_map::{GpioReg, Reg};
 use res_model::{Mode, Src};
 use std::alloc::Global;
-use std::test::Fail;
 
 const NO: Answer = Answer {
     hse: false,
@@ -87,18 +88,6 @@ fn clock_pin_accesses() -> [Op; 10] {
     ]
 }
 
-#[test]
-fn the_board_has_its_accesses(rt: HostRuntime) -> Result<(), Fail> {
-    let ops = accesses(rt.alloc(), &board())?;
-    assert!(rt; ops.as_slice().starts_with(board_clock().as_slice()));
-    assert_eq!(rt;
-        ops.len(),
-        12 + 2 * 5 + 4 * 4,
-        "two alternate functions and four outputs"
-    );
-    Ok(())
-}
-
 /// From HSI to 180 MHz at scale 1 with over-drive, and no pin.
 fn over_accesses() -> [Op; 14] {
     [
@@ -125,265 +114,244 @@ fn over_accesses() -> [Op; 14] {
     ]
 }
 
-#[test]
-fn over_drive_comes_before_the_latency(rt: HostRuntime) -> Result<(), Fail> {
-    let ops = accesses(rt.alloc(), &over())?;
-    assert_eq!(rt; ops.as_slice(), over_accesses().as_slice());
-    let seen = set_up(rt.alloc(), &over(), YES, PLACES)?;
-    let last = Stepped::Went;
-    assert_eq!(rt;
-        seen.ran,
-        Ran {
+/// USB_DM, SWCLK, PD15 and OSC_IN.
+const PLACES: [u8; 4] = [11, 14, 63, 112];
+
+/// Whether a run ended so after so many steps, with each state legal.
+fn ran_to(seen: &Seen, last: Stepped, steps: u32) -> bool {
+    seen.ran
+        == Ran {
             last,
-            steps: 14,
-            legal: true
+            steps,
+            legal: true,
         }
-    );
-    assert_eq!(rt; seen.power, Some(4));
-    assert_eq!(rt;
-        &seen.hertz[..4],
-        [180_000_000, 180_000_000, 45_000_000, 90_000_000].as_slice()
-    );
-    Ok(())
 }
 
-#[test]
-fn over_drive_that_never_comes_ends_the_run(rt: HostRuntime) -> Result<(), Fail> {
-    let none = Answer { over: false, ..YES };
-    let seen = set_up(rt.alloc(), &over(), none, PLACES)?;
-    let last = Stepped::TimedOut {
-        name: Timeout::Over,
-    };
-    // the six accesses before, each flag at its first poll, and the last poll
-    assert_eq!(rt;
-        seen.ran,
-        Ran {
-            last,
-            steps: 6 + 10_000,
-            legal: true
-        }
-    );
-    assert_eq!(rt; seen.source, Src::Hsi);
-    assert_eq!(rt; seen.power, Some(1));
-    Ok(())
+/// Two alternate functions and four outputs.
+fn the_board_has_its_accesses(alloc: Global) -> bool {
+    match begins(alloc, &board(), board_clock().as_slice()) {
+        Some(found) => found == (12 + 2 * 5 + 4 * 4, true),
+        None => false,
+    }
 }
 
-#[test]
-fn a_switch_to_over_drive_that_never_comes_ends_the_run(rt: HostRuntime) -> Result<(), Fail> {
-    let none = Answer {
-        over_switch: false,
-        ..YES
-    };
-    let seen = set_up(rt.alloc(), &over(), none, PLACES)?;
-    let last = Stepped::TimedOut {
-        name: Timeout::OverSwitch,
-    };
-    assert_eq!(rt;
-        seen.ran,
-        Ran {
-            last,
-            steps: 8 + 10_000,
-            legal: true
-        }
-    );
-    assert_eq!(rt; seen.source, Src::Hsi);
-    Ok(())
+fn over_drive_comes_before_the_latency(alloc: Global) -> bool {
+    match begins(alloc, &over(), over_accesses().as_slice()) {
+        Some(found) => found == (14, true),
+        None => false,
+    }
 }
 
-/// Whether accesses begin with these.
-fn begin_with(ops: &[Op], first: &[Op]) -> bool {
-    first.len() <= ops.len() && &ops[..first.len()] == first
-}
-
-#[test]
-fn scale_3_is_1_of_two_bits(rt: HostRuntime) -> Result<(), Fail> {
-    let ops = accesses(rt.alloc(), &third_scale())?;
+fn scale_3_is_1_of_two_bits(alloc: Global) -> bool {
     let first = [
         modify(Reg::Apb1enr, 0, 0x1000_0000),
         read(Reg::Apb1enr),
         modify(Reg::PwrCr, 0x0000_C000, 0x0000_4000),
     ];
-    assert!(rt; begin_with(ops.as_slice(), first.as_slice()));
-    let seen = set_up(rt.alloc(), &third_scale(), NO, PLACES)?;
-    assert_eq!(rt; seen.ran.legal, true);
-    assert_eq!(rt; seen.power, Some(3));
-    Ok(())
+    match begins(alloc, &third_scale(), first.as_slice()) {
+        Some((_, found)) => found,
+        None => false,
+    }
 }
 
-/// USB_DM, SWCLK, PD15 and OSC_IN.
-const PLACES: [u8; 4] = [11, 14, 63, 112];
+fn pb3_goes_from_af0_to_af5(alloc: Global) -> bool {
+    match begins(alloc, &clock_pin(), clock_pin_accesses().as_slice()) {
+        Some(found) => found == (10, true),
+        None => false,
+    }
+}
 
 #[test]
-fn a_crystal_that_never_starts_ends_the_run(rt: HostRuntime) -> Result<(), Fail> {
+fn settings_have_their_accesses(rt: HostRuntime) {
+    assert!(rt; the_board_has_its_accesses(rt.alloc()));
+    assert!(rt; over_drive_comes_before_the_latency(rt.alloc()));
+    assert!(rt; scale_3_is_1_of_two_bits(rt.alloc()));
+    assert!(rt; pb3_goes_from_af0_to_af5(rt.alloc()));
+}
+
+/// Each flag at its first poll.
+fn over_drive_comes_to_180_mhz(alloc: Global) -> bool {
+    let Some(seen) = set_up(alloc, &over(), YES, PLACES) else {
+        return false;
+    };
+    let hertz = [180_000_000, 180_000_000, 45_000_000, 90_000_000];
+    ran_to(&seen, Stepped::Went, 14)
+        && seen.power == Some(4)
+        && &seen.hertz[..4] == hertz.as_slice()
+}
+
+/// The six accesses before, each flag at its first poll, and the last poll.
+fn over_drive_that_never_comes_ends_the_run(alloc: Global) -> bool {
+    let none = Answer { over: false, ..YES };
+    let Some(seen) = set_up(alloc, &over(), none, PLACES) else {
+        return false;
+    };
+    let last = Stepped::TimedOut {
+        name: Timeout::Over,
+    };
+    ran_to(&seen, last, 6 + 10_000) && seen.source == Src::Hsi && seen.power == Some(1)
+}
+
+fn a_switch_to_over_drive_that_never_comes_ends_the_run(alloc: Global) -> bool {
+    let none = Answer {
+        over_switch: false,
+        ..YES
+    };
+    let Some(seen) = set_up(alloc, &over(), none, PLACES) else {
+        return false;
+    };
+    let last = Stepped::TimedOut {
+        name: Timeout::OverSwitch,
+    };
+    ran_to(&seen, last, 8 + 10_000) && seen.source == Src::Hsi
+}
+
+fn scale_3_is_in_effect(alloc: Global) -> bool {
+    match set_up(alloc, &third_scale(), NO, PLACES) {
+        Some(seen) => seen.ran.legal && seen.power == Some(3),
+        None => false,
+    }
+}
+
+#[test]
+fn parts_with_over_drive(rt: HostRuntime) {
+    assert!(rt; over_drive_comes_to_180_mhz(rt.alloc()));
+    assert!(rt; over_drive_that_never_comes_ends_the_run(rt.alloc()));
+    assert!(rt; a_switch_to_over_drive_that_never_comes_ends_the_run(rt.alloc()));
+    assert!(rt; scale_3_is_in_effect(rt.alloc()));
+}
+
+/// HSEON, and the last poll. SWS says HSI.
+fn a_crystal_that_never_starts_ends_the_run(alloc: Global) -> bool {
     let none = Answer { hse: false, ..YES };
-    let seen = set_up(rt.alloc(), &board(), none, PLACES)?;
+    let Some(seen) = set_up(alloc, &board(), none, PLACES) else {
+        return false;
+    };
     let last = Stepped::TimedOut { name: Timeout::Hse };
-    // HSEON, and the last poll
-    assert_eq!(rt;
-        seen.ran,
-        Ran {
-            last,
-            steps: 1 + 100_000,
-            legal: true
-        }
-    );
-    assert_eq!(rt; seen.cfgr, 0, "SWS says HSI");
-    assert_eq!(rt; seen.source, Src::Hsi);
-    assert_eq!(rt; seen.hertz[0], 16_000_000);
-    Ok(())
+    ran_to(&seen, last, 1 + 100_000)
+        && seen.cfgr == 0
+        && seen.source == Src::Hsi
+        && seen.hertz[0] == 16_000_000
 }
 
-#[test]
-fn the_board_comes_to_168_mhz(rt: HostRuntime) -> Result<(), Fail> {
-    let seen = set_up(rt.alloc(), &board(), YES, PLACES)?;
-    let last = Stepped::Went;
-    // each flag at the first poll
-    assert_eq!(rt;
-        seen.ran,
-        Ran {
-            last,
-            steps: 38,
-            legal: true
-        }
-    );
-    assert_eq!(rt; seen.cfgr, 0x0000_940A, "SWS says the PLL");
-    assert_eq!(rt; seen.source, Src::Pll);
-    assert_eq!(rt; seen.latency, 5);
-    let buses = [
-        168_000_000,
-        168_000_000,
-        42_000_000,
-        84_000_000,
-        84_000_000,
-        168_000_000,
-    ];
-    assert_eq!(rt; &seen.hertz[..6], buses.as_slice());
-    assert_eq!(rt;
-        &seen.hertz[6..],
-        [1_000_000, 336_000_000, 48_000_000].as_slice()
-    );
-    let modes = [Mode::Alt(10), Mode::Alt(0), Mode::Output, Mode::Input];
-    assert_eq!(rt; seen.modes, modes, "OSC_IN is as at reset");
-    Ok(())
+/// The buses and their timers; then the PLL's input, its VCO and the 48 MHz clock.
+fn has_board_clocks(seen: &Seen) -> bool {
+    seen.hertz
+        == [
+            168_000_000,
+            168_000_000,
+            42_000_000,
+            84_000_000,
+            84_000_000,
+            168_000_000,
+            1_000_000,
+            336_000_000,
+            48_000_000,
+        ]
 }
 
-#[test]
-fn pb3_goes_from_af0_to_af5(rt: HostRuntime) -> Result<(), Fail> {
-    let ops = accesses(rt.alloc(), &clock_pin())?;
-    assert_eq!(rt; ops.as_slice(), clock_pin_accesses().as_slice());
-    let before = after(rt.alloc(), &clock_pin(), [].as_slice(), YES, [19; 4])?;
-    assert_eq!(rt; before.modes[0], Mode::Alt(0), "JTDO");
-    let seen = set_up(rt.alloc(), &clock_pin(), YES, [19; 4])?;
-    let last = Stepped::Went;
-    assert_eq!(rt;
-        seen.ran,
-        Ran {
-            last,
-            steps: 10,
-            legal: true
-        }
-    );
-    assert_eq!(rt; seen.modes[0], Mode::Alt(5), "SPI1_SCK");
-    Ok(())
+/// Each flag at the first poll. SWS says the PLL, and OSC_IN is as at reset.
+fn the_board_comes_to_168_mhz(alloc: Global) -> bool {
+    let Some(seen) = set_up(alloc, &board(), YES, PLACES) else {
+        return false;
+    };
+    ran_to(&seen, Stepped::Went, 38)
+        && seen.cfgr == 0x0000_940A
+        && seen.source == Src::Pll
+        && seen.latency == 5
+        && has_board_clocks(&seen)
+        && seen.modes == [Mode::Alt(10), Mode::Alt(0), Mode::Output, Mode::Input]
 }
 
-#[test]
-fn a_latency_comes_when_it_is_answered(rt: HostRuntime) -> Result<(), Fail> {
+/// PB3 is JTDO, and then SPI1_SCK.
+fn pb3_becomes_spi1_sck(alloc: Global) -> bool {
+    let Some(before) = after(alloc, &clock_pin(), [].as_slice(), YES, [19; 4]) else {
+        return false;
+    };
+    let Some(seen) = set_up(alloc, &clock_pin(), YES, [19; 4]) else {
+        return false;
+    };
+    before.modes[0] == Mode::Alt(0)
+        && ran_to(&seen, Stepped::Went, 10)
+        && seen.modes[0] == Mode::Alt(5)
+}
+
+/// The latency in effect where no flag comes at a write of ACR, and then those that are answered.
+fn latency_behind(alloc: Global, a: Answer) -> Option<u8> {
     let asked = [write(Reg::Acr, 0x0000_0705)];
-    let none = after_flags(rt.alloc(), &board(), asked.as_slice(), NO)?;
-    assert_eq!(rt; none.latency, 0);
-    let come = after_flags(rt.alloc(), &board(), asked.as_slice(), YES)?;
-    assert_eq!(rt; come.latency, 5);
-    Ok(())
+    Some(after_flags(alloc, &board(), asked.as_slice(), a)?.latency)
 }
 
-/// The last answer to accesses from reset, with the board's target, and whether each state was legal.
-fn ran(alloc: Global, ops: &[Op], a: Answer) -> Result<(Stepped, bool), Fail> {
-    let ran = after(alloc, &board(), ops, a, PLACES)?.ran;
-    Ok((ran.last, ran.legal))
+fn a_latency_comes_when_it_is_answered(alloc: Global) -> bool {
+    latency_behind(alloc, NO) == Some(0) && latency_behind(alloc, YES) == Some(5)
 }
 
-const FINE: (Stepped, bool) = (Stepped::Went, true);
+#[test]
+fn the_board_and_a_pin(rt: HostRuntime) {
+    assert!(rt; a_crystal_that_never_starts_ends_the_run(rt.alloc()));
+    assert!(rt; the_board_comes_to_168_mhz(rt.alloc()));
+    assert!(rt; pb3_becomes_spi1_sck(rt.alloc()));
+    assert!(rt; a_latency_comes_when_it_is_answered(rt.alloc()));
+}
 
-/// No step of it is forbidden, and it is wrong all the same.
-const NOT_LEGAL: (Stepped, bool) = (Stepped::Went, false);
+/// Whether accesses from reset go to their end with the target of a setting, and whether each state is then legal.
+fn goes(alloc: Global, s: &Setting, ops: &[Op], a: Answer, legal: bool) -> bool {
+    match after(alloc, s, ops, a, PLACES) {
+        Some(seen) => seen.ran.last == Stepped::Went && seen.ran.legal == legal,
+        None => false,
+    }
+}
 
 /// Behind the PLL and the dividers, SW asks for 168 MHz.
-#[test]
-fn no_wait_state_is_too_few_for_168_mhz(rt: HostRuntime) -> Result<(), Fail> {
+fn no_wait_state_is_too_few_for_168_mhz(alloc: Global) -> bool {
     let ops = board_clock();
-    let waited = ran(rt.alloc(), &ops[..9], YES)?;
-    assert_eq!(rt; waited, FINE);
     let early = [ops[0], ops[1], ops[2], ops[3], ops[4], ops[7], ops[8]];
-    let hasty = ran(rt.alloc(), early.as_slice(), YES)?;
-    assert_eq!(rt; hasty, NOT_LEGAL);
-    Ok(())
+    goes(alloc, &board(), &ops[..9], YES, true)
+        && goes(alloc, &board(), early.as_slice(), YES, false)
 }
 
 /// As without the wait for ODSWRDY: at 180 MHz and scale 1 alone.
-#[test]
-fn without_over_drive_180_mhz_is_too_fast(rt: HostRuntime) -> Result<(), Fail> {
+fn without_over_drive_180_mhz_is_too_fast(alloc: Global) -> bool {
     let ops = over_accesses();
-    let whole = after(rt.alloc(), &over(), ops.as_slice(), YES, PLACES)?;
-    assert_eq!(rt; (whole.ran.last, whole.ran.legal), FINE);
     let early = [ops[2], ops[3], ops[4], ops[9], ops[10], ops[11], ops[12]];
-    let hasty = after(rt.alloc(), &over(), early.as_slice(), YES, PLACES)?;
-    assert_eq!(rt; (hasty.ran.last, hasty.ran.legal), NOT_LEGAL);
-    Ok(())
+    goes(alloc, &over(), ops.as_slice(), YES, true)
+        && goes(alloc, &over(), early.as_slice(), YES, false)
 }
 
 /// PA11 is USB_DM, at AF10.
-#[test]
-fn a_pin_has_its_function_before_its_mode(rt: HostRuntime) -> Result<(), Fail> {
-    let port_a = |kind| Reg::Gpio { port: 0, kind };
+fn a_pin_has_its_function_before_its_mode(alloc: Global) -> bool {
     let enable = modify(Reg::Ahb1enr, 0, 0x0000_0001);
-    let function = modify(port_a(GpioReg::Afrh), 0x0000_F000, 0x0000_A000);
-    let mode = modify(port_a(GpioReg::Moder), 0x00C0_0000, 0x0080_0000);
+    let function = Reg::Gpio {
+        port: 0,
+        kind: GpioReg::Afrh,
+    };
+    let function = modify(function, 0x0000_F000, 0x0000_A000);
+    let mode = Reg::Gpio {
+        port: 0,
+        kind: GpioReg::Moder,
+    };
+    let mode = modify(mode, 0x00C0_0000, 0x0080_0000);
     let right = [enable, read(Reg::Ahb1enr), function, mode];
-    assert_eq!(rt; ran(rt.alloc(), right.as_slice(), NO)?, FINE);
     let wrong = [enable, read(Reg::Ahb1enr), mode, function];
-    assert_eq!(rt; ran(rt.alloc(), wrong.as_slice(), NO)?, NOT_LEGAL);
-    Ok(())
+    goes(alloc, &board(), right.as_slice(), NO, true)
+        && goes(alloc, &board(), wrong.as_slice(), NO, false)
 }
 
-/// From HSI by 16, N 100 makes a VCO of 100 MHz, the least of the table, and N 50 one of 50 MHz.
-#[test]
-fn a_vco_is_in_range_where_the_pll_is_on(rt: HostRuntime) -> Result<(), Fail> {
+/// From HSI by 16, N 100 makes a VCO of 100 MHz, the least of the table, and N 50 one of 50 MHz, which is legal while the
+/// PLL is off.
+fn a_vco_is_in_range_where_the_pll_is_on(alloc: Global) -> bool {
     let on = modify(Reg::Cr, 0, 0x0100_0000);
     let least = [write(Reg::Pllcfgr, 0x2400_1910), on];
-    assert_eq!(rt; ran(rt.alloc(), least.as_slice(), NO)?, FINE);
     let half = [write(Reg::Pllcfgr, 0x2400_0C90), on];
-    assert_eq!(rt; ran(rt.alloc(), half.as_slice(), NO)?, NOT_LEGAL);
-    assert_eq!(rt; ran(rt.alloc(), &half[..1], NO)?, FINE, "while it is off");
-    Ok(())
-}
-
-const fn forbidden(rule: Rule) -> (Stepped, bool) {
-    (Stepped::Forbidden { rule }, true)
+    goes(alloc, &board(), least.as_slice(), NO, true)
+        && goes(alloc, &board(), half.as_slice(), NO, false)
+        && goes(alloc, &board(), &half[..1], NO, true)
 }
 
 #[test]
-fn pllcfgr_is_written_before_the_pll_is_on(rt: HostRuntime) -> Result<(), Fail> {
-    let on = modify(Reg::Cr, 0, 0x0100_0000);
-    let word = write(Reg::Pllcfgr, 0x2400_3010);
-    assert_eq!(rt; ran(rt.alloc(), [word, on].as_slice(), NO)?, FINE);
-    assert_eq!(rt;
-        ran(rt.alloc(), [on, word].as_slice(), NO)?,
-        forbidden(Rule::PllcfgrWithPllOn)
-    );
-    Ok(())
-}
-
-#[test]
-fn an_enable_is_read_back_before_its_port(rt: HostRuntime) -> Result<(), Fail> {
-    let enable = modify(Reg::Ahb1enr, 0, 0x0000_0002);
-    let moder = write(port_b(GpioReg::Moder), 0x0000_0280);
-    let right = [enable, read(Reg::Ahb1enr), moder];
-    assert_eq!(rt; ran(rt.alloc(), right.as_slice(), NO)?, FINE);
-    let wrong = [enable, read(Reg::Apb1enr), moder];
-    assert_eq!(rt;
-        ran(rt.alloc(), wrong.as_slice(), NO)?,
-        forbidden(Rule::GpioBeforeEnable)
-    );
-    Ok(())
+fn what_goes_may_be_illegal(rt: HostRuntime) {
+    assert!(rt; no_wait_state_is_too_few_for_168_mhz(rt.alloc()));
+    assert!(rt; without_over_drive_180_mhz_is_too_fast(rt.alloc()));
+    assert!(rt; a_pin_has_its_function_before_its_mode(rt.alloc()));
+    assert!(rt; a_vco_is_in_range_where_the_pll_is_on(rt.alloc()));
 }
