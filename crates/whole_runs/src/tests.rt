@@ -305,8 +305,11 @@ fn goes(alloc: Global, s: &Setting, ops: &[Op], a: Answer, legal: bool) -> bool 
 /// Behind the PLL and the dividers, SW asks for 168 MHz.
 fn no_wait_state_is_too_few_for_168_mhz(alloc: Global) -> bool {
     let ops = board_clock();
+    let right = [
+        ops[0], ops[1], ops[2], ops[3], ops[4], ops[5], ops[6], ops[7], ops[8],
+    ];
     let early = [ops[0], ops[1], ops[2], ops[3], ops[4], ops[7], ops[8]];
-    goes(alloc, &board(), &ops[..9], YES, true)
+    goes(alloc, &board(), right.as_slice(), YES, true)
         && goes(alloc, &board(), early.as_slice(), YES, false)
 }
 
