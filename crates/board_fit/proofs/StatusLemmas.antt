@@ -10,7 +10,7 @@ use Rattle.board_fit.specs.Board.{OfBoard, OfFit, narrow, refuted, solved, wide}
 module _ (P : Status → Type 0) (done : P Done) (no_choice : P NoChoice) (too_wide : P TooWide) where
   of_fit : (w : ProblemParts) (a : Answer) → OfFit w a → P a.status
   of_fit w a (solved c least sound read e) = subst P (sym (ap (λ (x : Answer). x.status) e)) done
-  of_fit w a (refuted text none refuted e) = subst P (sym (ap (λ (x : Answer). x.status) e)) no_choice
+  of_fit w a (refuted text none tree e) = subst P (sym (ap (λ (x : Answer). x.status) e)) no_choice
 
   pub of_board : (q w : ProblemParts) (a : Answer) → OfBoard q w a → P a.status
   of_board q w a (wide v not_narrow first says) = subst P (sym (ap (λ (x : Answer). x.status) says)) too_wide
