@@ -56,7 +56,7 @@ def man_page():
              "that are told so below) is not."),
         ".PP",
         roff("Options stand after the names, in any order. `--quiet` before the command takes away all that is added to "
-             "what the program prints."),
+             "what the program prints, but in a checkout the line that an older program answered."),
         ".SH COMMANDS",
     ]
     for command in commands.COMMANDS.values():
