@@ -1,6 +1,5 @@
 -- Each act of a worker accounts for the paths that came to it.
-use Rattle.std.proofs.Common.{◌≡◌, ℕ, ◌+◌, ◌*◌, List, [], ◌∷◌, ◌++◌, Option, Some, None, false, sym, refl, ap, ◌∙◌, subst, arith}
-use Rattle.std.specs.Prelude.{MatchOption, option_to_list}
+use Rattle.std.proofs.Common.{◌≡◌, ℕ, ◌+◌, ◌*◌, List, [], ◌∷◌, ◌++◌, Bool, Some, None, true, false, sym, refl, ap, ◌∙◌, subst, arith}
 use Rattle.res_base.specs.Lists.{total}
 use Rattle.res_base.proofs.ListLemmas.{total_snoc, total_append}
 use Rattle.box_split.specs.Boxes.{Run, is_single}
@@ -11,9 +10,9 @@ use Rattle.search_api.specs.declared.verdict.Verdict.TheVariants as verdict
 use Rattle.search_api.specs.declared.outcome.Closed.{Closed}
 use Rattle.search_api.specs.declared.place.Place.{Place}
 use Rattle.search_api.specs.Meaning.{Meaning}
-use Rattle.search_api.specs.Places.{IsAt, paths_of}
+use Rattle.search_api.specs.Places.{paths_of}
 use Rattle.steal_worker.specs.Flows.{weight_at, weight_closed, Flows, FlowsOn}
-use Rattle.steal_worker.specs.Walks.{Halved}
+use Rattle.steal_worker.specs.Walks.{Halved, in_hand, IsFound}
 
 pub paths_weight : (h : ℕ → ℕ) (places : List Place) → total h (paths_of places) ≡ weight_at h places
 paths_weight h [] = refl
@@ -128,9 +127,9 @@ module _ (m : Meaning) where
     }
 
     -- what an empty hand found, if it is a path
-    pub flow_found : (x : ℕ) (r : Option Place) (held : List Place) (closed : List Closed) → MatchOption r (box_of m.shape x ≡ None) (λ p. (p.path ≡ x) × IsAt m.shape p) → ((h : ℕ → ℕ) → new_came h ≡ came h + h x) → ((h : ℕ → ℕ) → new_went h ≡ went h) → Flows m came went [] held closed → Flows m new_came new_went (option_to_list r) held closed
-    flow_found x None held closed f more same k = flow_lose x held closed f more same k
-    flow_found x (Some p) held closed f more same k = flow_take p held closed (λ h. more h ∙ ap (λ n. came h + n) (ap h (sym f.0))) same k
+    pub flow_found : (x : ℕ) (r : Bool) (p : Place) (held : List Place) (closed : List Closed) → IsFound m.shape x r p → ((h : ℕ → ℕ) → new_came h ≡ came h + h x) → ((h : ℕ → ℕ) → new_went h ≡ went h) → Flows m came went [] held closed → Flows m new_came new_went (in_hand r p) held closed
+    flow_found x false p held closed f more same k = flow_lose x held closed f more same k
+    flow_found x true p held closed f more same k = flow_take p held closed (λ h. more h ∙ ap (λ n. came h + n) (ap h (sym f.0))) same k
 
   pub flows_same : (hand held new_hand new_hand' new_held new_held' : List Place) (closed new_closed : List Closed) → new_hand' ≡ new_hand → new_held' ≡ new_held → FlowsOn m hand held closed new_hand new_held new_closed → FlowsOn m hand held closed new_hand' new_held' new_closed
   flows_same hand held new_hand new_hand' new_held new_held' closed new_closed eh ep f came went k =

@@ -1,7 +1,6 @@
 -- Each act of a worker keeps what it keeps of its boxes and places.
-use Rattle.std.proofs.Common.{◌≡◌, ℕ, ◌+◌, ◌*◌, ◌^◌, ◌<◌, ◌≤◌, List, [], ◌∷◌, ◌++◌, length, Option, Some, None, sym, refl, ap, ◌∙◌, subst, ⊎_elim, arith, append_assoc, append-nil, length-append, lt_of_not-le}
+use Rattle.std.proofs.Common.{◌≡◌, ℕ, ◌+◌, ◌*◌, ◌^◌, ◌<◌, ◌≤◌, List, [], ◌∷◌, ◌++◌, length, Bool, true, false, Option, Some, sym, refl, ap, ◌∙◌, subst, ⊎_elim, arith, append_assoc, append-nil, length-append, lt_of_not-le}
 use Rattle.std.specs.Option.{option_map_or}
-use Rattle.std.specs.Prelude.{MatchOption, option_to_list}
 use Rattle.std.proofs.Math.Pow.{pow_mono}
 use Rattle.std.proofs.lemmas.Grind.{pow_more}
 use mathlib.Core.Logic.{dite}
@@ -24,7 +23,7 @@ use Rattle.search_api.specs.declared.place.Place.{Place}
 use Rattle.search_api.specs.Meaning.{Meaning}
 use Rattle.search_api.specs.Accounts.{IsClosed, IsEntry, IsLegalRank, IfLeaf, UnlessCut, IsInTime, low_at}
 use Rattle.search_api.specs.Places.{IsAt}
-use Rattle.steal_worker.specs.Walks.{leaf_rank, leaf_ranks, IfCut, IsAtMost, Deep, known, IsLooked, AreClosed, Walks, Halved}
+use Rattle.steal_worker.specs.Walks.{leaf_rank, leaf_ranks, IfCut, IsAtMost, Deep, known, IsLooked, AreClosed, Walks, Halved, in_hand, IsFound}
 
 -- a path that a worker closed
 abbrev pub entry_of : ℕ → ℕ → Cause → Closed
@@ -240,9 +239,9 @@ module _ {J : Type 0} where
           }
 
       -- the path that a worker without places found, if it is one
-      pub walks_found : (x : ℕ) (r : Option Place) (v : View J) (held : List Place) (closed : List Closed) → MatchOption r (box_of m.shape x ≡ None) (λ p. (p.path ≡ x) × IsAt m.shape p) → held ≡ [] → Walks m number [] v held closed → Walks m number (option_to_list r) v held closed
-      walks_found x None v held closed f none k = k
-      walks_found x (Some p) v held closed f none k = walks_take p v held closed none f.1 (positive m.shape p.path (box_in m.shape p.b) f.1) k
+      pub walks_found : (x : ℕ) (r : Bool) (p : Place) (v : View J) (held : List Place) (closed : List Closed) → IsFound m.shape x r p → held ≡ [] → Walks m number [] v held closed → Walks m number (in_hand r p) v held closed
+      walks_found x false p v held closed f none k = k
+      walks_found x true p v held closed f none k = walks_take p v held closed none f.1 (positive m.shape p.path (box_in m.shape p.b) f.1) k
 
     pub walks_same : (n n' : ℕ) (hand hand' : List Place) (v v' : View J) (held held' : List Place) (closed closed' : List Closed) → n' ≡ n → hand' ≡ hand → v' ≡ v → held' ≡ held → closed' ≡ closed → Walks m n hand v held closed → Walks m n' hand' v' held' closed'
     walks_same n n' hand hand' v v' held held' closed closed' en eh ev ep ec k =

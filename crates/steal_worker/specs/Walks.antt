@@ -1,7 +1,8 @@
 -- Internal: what a worker keeps true of the boxes that it closed and of the places that it holds.
-use Rattle.std.specs.Prelude.{◌≡◌, ℕ, ◌+◌, ◌*◌, ◌≤◌, ◌^◌, List, [], ◌∷◌, ◌++◌, length}
+use Rattle.std.specs.Prelude.{◌≡◌, ℕ, ◌+◌, ◌*◌, ◌≤◌, ◌^◌, List, [], ◌∷◌, ◌++◌, length, Bool, true, false, None}
 use Rattle.res_base.specs.Lists.{Each, Member, Pairwise}
 use Rattle.choice_rank.specs.declared.variable.VarShape.{VarShape}
+use Rattle.box_split.specs.Paths.{box_of}
 use Rattle.best_word.specs.declared.part.Part.TheVariants.{Other}
 use Rattle.best_word.specs.declared.word.View.{View}
 use Rattle.search_api.specs.declared.outcome.Cause.{Cause}
@@ -12,6 +13,16 @@ use Rattle.search_api.specs.Meaning.{Meaning}
 use Rattle.search_api.specs.Accounts.{IsEntry, IsLegalRank, IsInTime}
 use Rattle.search_api.specs.Places.{IsAt}
 use Rattle.steal_worker.specs.declared.held.Held.{Held}
+
+-- the place in hand, where there is one
+abbrev pub in_hand : Bool → Place → List Place
+in_hand false place = []
+in_hand true place = place ∷ []
+
+-- the place in hand is that of a path; there is none where the number is no path
+abbrev pub IsFound : List VarShape → ℕ → Bool → Place → Type 0
+IsFound vars path false place = box_of vars path ≡ None
+IsFound vars path true place = (place.path ≡ path) × IsAt vars place
 
 -- the places of a private end, the last one next
 abbrev pub held_places : Held → List Place

@@ -1,5 +1,5 @@
 //! The private end of a worker's deque. It takes no memory once it is made.
-ghost use Rattle.std.specs.Prelude.{◌≡◌, ◌<◌, ◌≤◌, List, [], ◌∷◌, ◌++◌, length, IfOk, MatchOption};
+ghost use Rattle.std.specs.Prelude.{◌≡◌, ◌<◌, ◌≤◌, List, [], ◌∷◌, ◌++◌, length, false, IfOk, MatchOption};
 ghost use Rattle.std.specs.Prelude.{vec_capacity};
 
 use res_base::OutOfMemory;
@@ -15,7 +15,7 @@ pub struct Held {
 
 impl Held {
     ghost use Rattle.search_api.specs.declared.place.Place.{Place};
-    ghost use Rattle.steal_worker.specs.Walks.{held_places};
+    ghost use Rattle.steal_worker.specs.Walks.{held_places, in_hand};
 
     /// A private end that holds nothing.
     pub fn new(alloc: Global) -> Result<Held, OutOfMemory>
@@ -35,11 +35,18 @@ impl Held {
         self.places.push_reserved(place);
     }
 
-    /// Takes the next place.
-    pub fn pop(&mut self) -> Option<Place>
-        ensures { MatchOption result ((held_places self.old ≡ []) × (held_places self.new ≡ [])) (λ place. held_places self.old ≡ held_places self.new ++ place ∷ []) }
+    /// Puts the next place into a hand. The answer is whether there was one.
+    pub fn pop(&mut self, hand: &mut Place) -> bool
+        ensures none { result ≡ false → held_places self.new ≡ [] }
+        ensures popped { held_places self.old ≡ held_places self.new ++ in_hand result hand.new }
     {
-        self.places.pop()
+        match self.places.pop() {
+            Some(place) => {
+                *hand = place;
+                true
+            }
+            None => false,
+        }
     }
 
     /// The path of the first place, which would be the last one to be next.

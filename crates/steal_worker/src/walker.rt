@@ -1,5 +1,5 @@
 //! What a worker does with a box, whoever else is at work.
-ghost use Rattle.std.specs.Prelude.{◌≡◌, ◌+◌, ◌<◌, None, Some, false, [], ◌∷◌, ◌++◌, length, option_to_list, IfOk, MatchOption, MatchResult};
+ghost use Rattle.std.specs.Prelude.{◌≡◌, ◌+◌, ◌<◌, None, Some, true, false, [], ◌∷◌, ◌++◌, length, IfOk, MatchOption, MatchResult};
 ghost use Rattle.res_base.specs.Lists.{Member};
 ghost use Rattle.best_word.specs.Handles.{IsSeatOf, best_view, judge_of};
 ghost use Rattle.best_word.specs.declared.part.Part.TheVariants.{First};
@@ -11,7 +11,7 @@ ghost use Rattle.search_api.specs.declared.outcome.Cause.TheVariants as cause;
 ghost use Rattle.search_api.specs.Accounts.{IsLegalRank};
 ghost use Rattle.search_api.specs.Places.{IsAt};
 ghost use Rattle.steal_worker.specs.Flows.{FlowsOn};
-ghost use Rattle.steal_worker.specs.Walks.{Walks, Halved, IsLooked, IsAtMost, known, held_places};
+ghost use Rattle.steal_worker.specs.Walks.{Walks, Halved, IsLooked, IsAtMost, known, held_places, in_hand};
 
 use crate::held::Held;
 use best_word::{BestSeat, BestWord};
@@ -92,7 +92,7 @@ impl<J: Judge> Walker<J> {
     }
 }
 
-/// One step on the box in hand: it is closed, or the lower half of it is next. The answer is what is in hand after it.
+/// One step on the box in hand: it is closed, or the lower half of it is in its place. The answer is whether one is in hand after it.
 ///
 /// The word is loaded once before the box is judged, and a rank is offered only after its choice was found to be legal.
 pub fn settle<J: Judge, G: Gate>(
@@ -100,27 +100,30 @@ pub fn settle<J: Judge, G: Gate>(
     gate: &G,
     word: &BestWord<J>,
     walker: &mut Walker<J>,
-    place: Place,
-) -> Result<Option<Place>, OutOfMemory>
+    place: &mut Place,
+) -> Result<bool, OutOfMemory>
     requires word { (judge_of word.now ≡ j.now) × IsSeatOf word.now walker.old.seat }
     requires fits { J.fits j.now walker.old.scratch }
-    requires walks { Walks (J.meaning j.now) walker.old.number (place ∷ []) (best_view walker.old.seat) (held_places walker.old.held) walker.old.closed }
+    requires walks { Walks (J.meaning j.now) walker.old.number (place.old ∷ []) (best_view walker.old.seat) (held_places walker.old.held) walker.old.closed }
     ensures word { IsSeatOf word.now walker.new.seat }
     ensures fits { J.fits j.now walker.new.scratch }
     ensures number { walker.new.number ≡ walker.old.number }
-    ensures walks { IfOk result (λ hand. Walks (J.meaning j.now) walker.new.number (option_to_list hand) (best_view walker.new.seat) (held_places walker.new.held) walker.new.closed) }
-    ensures flows { IfOk result (λ hand. FlowsOn (J.meaning j.now) (place ∷ []) (held_places walker.old.held) walker.old.closed (option_to_list hand) (held_places walker.new.held) walker.new.closed) }
+    ensures walks { IfOk result (λ more. Walks (J.meaning j.now) walker.new.number (in_hand more place.new) (best_view walker.new.seat) (held_places walker.new.held) walker.new.closed) }
+    ensures flows { IfOk result (λ more. FlowsOn (J.meaning j.now) (place.old ∷ []) (held_places walker.old.held) walker.old.closed (in_hand more place.new) (held_places walker.new.held) walker.new.closed) }
 {
     gate.pass(walker.number, walker.turn);
     walker.turn = walker.turn.wrapping_add(1);
-    let low = place_low(j, &place);
+    let low = place_low(j, place);
     if let Some(rank) = look(word, &mut walker.seat, low) {
         return close(walker, place.path, Cause::Cut { rank });
     }
-    match verdict(j, &mut walker.scratch, &place) {
+    match verdict(j, &mut walker.scratch, place) {
         Verdict::Bad(reason) => close(walker, place.path, Cause::Bad(reason)),
         Verdict::Legal => keep(word, walker, place.path, low),
-        Verdict::Open => Ok(Some(halve(j, &mut walker.held, place))),
+        Verdict::Open => {
+            halve(j, &mut walker.held, place);
+            Ok(true)
+        }
     }
 }
 
@@ -160,16 +163,16 @@ fn close<J: Judge>(
     walker: &mut Walker<J>,
     path: u128,
     cause: Cause,
-) -> Result<Option<Place>, OutOfMemory>
+) -> Result<bool, OutOfMemory>
     ensures rest { walker.new ≡ record walker.old { closed = walker.new.closed } }
-    ensures closed { IfOk result (λ hand. (hand ≡ None) × (walker.new.closed ≡ walker.old.closed ++ record { worker = walker.old.number; path = path; cause = cause } ∷ [])) }
+    ensures closed { IfOk result (λ more. (more ≡ false) × (walker.new.closed ≡ walker.old.closed ++ record { worker = walker.old.number; path = path; cause = cause } ∷ [])) }
 {
     walker.closed.push(Closed {
         worker: walker.number,
         path,
         cause,
     })?;
-    Ok(None)
+    Ok(false)
 }
 
 /// Closes the box in hand as a leaf, and then offers its rank.
@@ -178,12 +181,12 @@ fn keep<J: Judge>(
     walker: &mut Walker<J>,
     path: u128,
     low: u64,
-) -> Result<Option<Place>, OutOfMemory>
+) -> Result<bool, OutOfMemory>
     requires seat { IsSeatOf word.now walker.old.seat }
     requires legal { IsLegalRank (J.meaning (judge_of word.now)) low }
     ensures seat { IsSeatOf word.now walker.new.seat }
     ensures rest { walker.new ≡ record walker.old { closed = walker.new.closed; seat = walker.new.seat } }
-    ensures closed { IfOk result (λ hand. (hand ≡ None) × (walker.new.closed ≡ walker.old.closed ++ record { worker = walker.old.number; path = path; cause = cause.Leaf low } ∷ []) × (best_view walker.new.seat ≡ kept_more (best_view walker.old.seat) low)) }
+    ensures closed { IfOk result (λ more. (more ≡ false) × (walker.new.closed ≡ walker.old.closed ++ record { worker = walker.old.number; path = path; cause = cause.Leaf low } ∷ []) × (best_view walker.new.seat ≡ kept_more (best_view walker.old.seat) low)) }
 {
     walker.closed.push(Closed {
         worker: walker.number,
@@ -191,31 +194,29 @@ fn keep<J: Judge>(
         cause: Cause::Leaf { rank: low },
     })?;
     word.offer(&mut walker.seat, low);
-    Ok(None)
+    Ok(false)
 }
 
-/// Splits the box in hand: the upper half goes to the private end, and the lower half is the answer.
-fn halve<J: Judge>(j: &J, held: &mut Held, place: Place) -> Place
-    requires at { IsAt (J.meaning j.now).shape place }
-    requires open { is_single (box_in (J.meaning j.now).shape place.b) ≡ false }
+/// Splits the box in hand: the upper half goes to the private end, and the lower half stays in hand.
+fn halve<J: Judge>(j: &J, held: &mut Held, place: &mut Place)
+    requires at { IsAt (J.meaning j.now).shape place.old }
+    requires open { is_single (box_in (J.meaning j.now).shape place.old.b) ≡ false }
     requires room { length (held_places held.old) < 126 }
-    ensures { Halved (J.meaning j.now).shape place result (held_places held.old) (held_places held.new) }
+    ensures { Halved (J.meaning j.now).shape place.old place.new (held_places held.old) (held_places held.new) }
 {
     halve_in(j.shape(), held, place)
 }
 
 /// The same by the shape alone.
-fn halve_in(s: &Shape, held: &mut Held, place: Place) -> Place
-    requires at { IsAt s.now place }
-    requires open { is_single (box_in s.now place.b) ≡ false }
+fn halve_in(s: &Shape, held: &mut Held, place: &mut Place)
+    requires at { IsAt s.now place.old }
+    requires open { is_single (box_in s.now place.old.b) ≡ false }
     requires room { length (held_places held.old) < 126 }
-    ensures { Halved s.now place result (held_places held.old) (held_places held.new) }
+    ensures { Halved s.now place.old place.new (held_places held.old) (held_places held.new) }
 {
     let Some((variable, after)) = split_at(s, &place.b) else {
         unreachable!()
     };
-    let mut lower = place;
-    let upper = lower.halve(s, variable, after);
+    let upper = place.halve(s, variable, after);
     held.push(upper);
-    lower
 }

@@ -1,5 +1,5 @@
 //! One worker among others.
-ghost use Rattle.std.specs.Prelude.{◌≡◌, ℕ, ◌+◌, None, [], ◌∷◌, option_to_list, IfOk, OnOk, IfNone, MatchOption};
+ghost use Rattle.std.specs.Prelude.{◌≡◌, ℕ, ◌+◌, None, [], ◌∷◌, false, option_to_list, IfOk, OnOk, MatchOption};
 ghost use Rattle.res_base.specs.Lists.{Each, total};
 ghost use Rattle.best_word.specs.declared.part.Part.TheVariants.{First};
 ghost use Rattle.best_word.specs.Handles.{IsSeatOf, best_view, judge_of};
@@ -7,13 +7,14 @@ ghost use Rattle.box_split.specs.Paths.{box_of};
 ghost use Rattle.path_deque.specs.Ends.{owner_tally, owner_deque};
 ghost use Rattle.search_api.specs.Places.{IsAt};
 ghost use Rattle.steal_worker.specs.Jobs.{stolen, IsThief, thief_deques, Works, IsSameJob, IsReady, IsDone};
-ghost use Rattle.steal_worker.specs.Walks.{held_places};
+ghost use Rattle.steal_worker.specs.Walks.{held_places, in_hand, IsFound};
 
 use crate::ends::{place_of, share, steal_any};
 use crate::held::Held;
 use crate::stop::Stop;
 use crate::walker::{Walker, settle};
 use best_word::BestWord;
+use box_split::BoxBuf;
 use crossbeam_utils::Backoff;
 use path_deque::{Owner, Thief};
 use res_base::OutOfMemory;
@@ -67,55 +68,61 @@ pub fn work<R: Wait, J: Judge, G: Gate>(
     ensures done { OnOk result (IsDone (J.meaning j.now) word.now job.old job.new) }
 {
     let backoff = Backoff::new();
-    let mut hand = None;
+    let mut place = no_place();
+    let mut busy = false;
     for _ in rt.forever() {
         if stop.is_stopped() {
             return Err(OutOfMemory);
         }
-        match hand {
-            Some(place) => {
-                hand = step(j, gate, word, stop, job, place)?;
-            }
-            None => {
-                hand = take(j, job);
-                if hand.is_some() {
-                    backoff.reset();
-                } else if stop.all_closed() {
-                    return Ok(());
-                } else {
-                    backoff.snooze();
-                }
+        if busy {
+            busy = step(j, gate, word, stop, job, &mut place)?;
+        } else {
+            busy = take(j, job, &mut place);
+            if busy {
+                backoff.reset();
+            } else if stop.all_closed() {
+                return Ok(());
+            } else {
+                backoff.snooze();
             }
         }
     }
     unreachable!()
 }
 
-/// One step on the place in hand, after which others may have a path of this worker.
+/// What stands in the place of a box while none is in hand.
+fn no_place() -> Place {
+    Place {
+        path: 0,
+        b: BoxBuf::new(),
+    }
+}
+
+/// One step on the place in hand, after which others may have a path of this worker. The answer is whether one is in hand.
 fn step<J: Judge, G: Gate>(
     j: &J,
     gate: &G,
     word: &BestWord<J>,
     stop: &Stop,
     job: &mut Job<J>,
-    place: Place,
-) -> Result<Option<Place>, OutOfMemory>
+    place: &mut Place,
+) -> Result<bool, OutOfMemory>
     requires word { (judge_of word.now ≡ j.now) × IsSeatOf word.now job.old.walker.seat }
     requires fits { J.fits j.now job.old.walker.scratch }
-    requires works { Works (J.meaning j.now) (place ∷ []) job.old }
+    requires works { Works (J.meaning j.now) (place.old ∷ []) job.old }
     ensures word { IsSeatOf word.now job.new.walker.seat }
     ensures fits { J.fits j.now job.new.walker.scratch }
     ensures same { IsSameJob job.old job.new }
-    ensures works { IfOk result (λ hand. Works (J.meaning j.now) (option_to_list hand) job.new) }
+    ensures works { IfOk result (λ busy. Works (J.meaning j.now) (in_hand busy place.new) job.new) }
 {
     match settle(j, gate, word, &mut job.walker, place) {
-        Ok(Some(lower)) => {
+        Ok(true) => {
             share(&mut job.owner, &mut job.walker.held, stop);
-            Ok(Some(lower))
+            Ok(true)
         }
-        Ok(None) => {
+        Ok(false) => {
             count_done(&job.walker.held, stop);
-            Ok(None)
+            Ok(false)
         }
         Err(OutOfMemory) => {
             stop.stop();
@@ -131,20 +138,33 @@ fn count_done(held: &Held, stop: &Stop) {
     }
 }
 
-/// A place for an empty hand, if there is one to be had.
-fn take<J: Judge>(j: &J, job: &mut Job<J>) -> Option<Place>
+/// Puts a place into an empty hand. The answer is whether there was one to be had.
+fn take<J: Judge>(j: &J, job: &mut Job<J>, hand: &mut Place) -> bool
     requires { Works (J.meaning j.now) [] job.old }
-    ensures works { Works (J.meaning j.now) (option_to_list result) job.new }
+    ensures works { Works (J.meaning j.now) (in_hand result hand.new) job.new }
     ensures same { IsSameJob job.old job.new × (job.new.walker.seat ≡ job.old.walker.seat) × (job.new.walker.scratch ≡ job.old.walker.scratch) }
-    ensures none { IfNone result (held_places job.new.walker.held ≡ []) }
+    ensures none { result ≡ false → held_places job.new.walker.held ≡ [] }
 {
-    if let Some(place) = job.walker.held.pop() {
-        return Some(place);
+    if job.walker.held.pop(hand) {
+        return true;
     }
-    let Some(path) = find(&mut job.owner, &mut job.thieves) else {
-        return None;
-    };
-    place_for(j, path)
+    match find(&mut job.owner, &mut job.thieves) {
+        Some(path) => put_place(j, path, hand),
+        None => false,
+    }
+}
+
+/// Puts the place of a path into a hand; none where the number is no path.
+fn put_place<J: Judge>(j: &J, path: u128, hand: &mut Place) -> bool
+    ensures { IsFound (J.meaning j.now).shape path result hand.new }
+{
+    match place_for(j, path) {
+        Some(place) => {
+            *hand = place;
+            true
+        }
+        None => false,
+    }
 }
 
 /// The place of a path; none where the number is no path.
