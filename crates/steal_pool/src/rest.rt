@@ -1,10 +1,10 @@
 //! What the caller does with paths that no worker closed.
-ghost use Rattle.std.specs.Prelude.{◌≡◌, None, [], ◌∷◌, option_to_list, IfOk, OnOk};
+ghost use Rattle.std.specs.Prelude.{◌≡◌, [], ◌∷◌, false, IfOk, OnOk};
 ghost use Rattle.res_base.specs.Lists.{total};
 ghost use Rattle.best_word.specs.declared.part.Part.TheVariants.{First};
 ghost use Rattle.best_word.specs.Handles.{IsSeatOf, best_view, judge_of};
 ghost use Rattle.steal_worker.specs.Flows.{FlowsOn};
-ghost use Rattle.steal_worker.specs.Walks.{Walks, held_places};
+ghost use Rattle.steal_worker.specs.Walks.{Walks, held_places, in_hand};
 ghost use Rattle.steal_pool.specs.Joined.{Worked, TakesUp};
 
 use best_word::{BestSeat, BestWord};
@@ -84,36 +84,37 @@ fn close_below<R: Wait, J: Judge, G: Gate>(
     ensures walks { OnOk result (Walks (J.meaning j.now) walker.new.number [] (best_view walker.new.seat) [] walker.new.closed) }
     ensures flows { OnOk result (FlowsOn (J.meaning j.now) (place ∷ []) (held_places walker.old.held) walker.old.closed [] [] walker.new.closed) }
 {
-    let mut hand = Some(place);
+    let mut hand = place;
+    let mut more = true;
     for _ in rt.forever() {
-        let Some(next) = hand else {
+        if !more {
             return Ok(());
-        };
-        hand = turn(j, gate, word, walker, next)?;
+        }
+        more = turn(j, gate, word, walker, &mut hand)?;
     }
     unreachable!()
 }
 
-/// One step on the box in hand. The answer is what is next, if anything is left.
+/// One step on the box in hand, after which the next one is in its place. The answer is whether there is a next one.
 fn turn<J: Judge, G: Gate>(
     j: &J,
     gate: &G,
     word: &BestWord<J>,
     walker: &mut Walker<J>,
-    place: Place,
-) -> Result<Option<Place>, OutOfMemory>
+    place: &mut Place,
+) -> Result<bool, OutOfMemory>
     requires word { (judge_of word.now ≡ j.now) × IsSeatOf word.now walker.old.seat }
     requires fits { J.fits j.now walker.old.scratch }
-    requires walks { Walks (J.meaning j.now) walker.old.number (place ∷ []) (best_view walker.old.seat) (held_places walker.old.held) walker.old.closed }
+    requires walks { Walks (J.meaning j.now) walker.old.number (place.old ∷ []) (best_view walker.old.seat) (held_places walker.old.held) walker.old.closed }
     ensures word { IsSeatOf word.now walker.new.seat }
     ensures fits { J.fits j.now walker.new.scratch }
     ensures number { walker.new.number ≡ walker.old.number }
-    ensures none { IfOk result (λ next. next ≡ None → held_places walker.new.held ≡ []) }
-    ensures walks { IfOk result (λ next. Walks (J.meaning j.now) walker.new.number (option_to_list next) (best_view walker.new.seat) (held_places walker.new.held) walker.new.closed) }
-    ensures flows { IfOk result (λ next. FlowsOn (J.meaning j.now) (place ∷ []) (held_places walker.old.held) walker.old.closed (option_to_list next) (held_places walker.new.held) walker.new.closed) }
+    ensures none { IfOk result (λ more. more ≡ false → held_places walker.new.held ≡ []) }
+    ensures walks { IfOk result (λ more. Walks (J.meaning j.now) walker.new.number (in_hand more place.new) (best_view walker.new.seat) (held_places walker.new.held) walker.new.closed) }
+    ensures flows { IfOk result (λ more. FlowsOn (J.meaning j.now) (place.old ∷ []) (held_places walker.old.held) walker.old.closed (in_hand more place.new) (held_places walker.new.held) walker.new.closed) }
 {
     match settle(j, gate, word, walker, place)? {
-        Some(lower) => Ok(Some(lower)),
-        None => Ok(walker.held.pop()),
+        true => Ok(true),
+        false => Ok(walker.held.pop(place)),
     }
 }

@@ -159,11 +159,7 @@ fn look<J: Judge>(word: &BestWord<J>, seat: &mut BestSeat<J>, low: u64) -> Optio
 }
 
 /// Closes the box in hand.
-fn close<J: Judge>(
-    walker: &mut Walker<J>,
-    path: u128,
-    cause: Cause,
-) -> Result<bool, OutOfMemory>
+fn close<J: Judge>(walker: &mut Walker<J>, path: u128, cause: Cause) -> Result<bool, OutOfMemory>
     ensures rest { walker.new ≡ record walker.old { closed = walker.new.closed } }
     ensures closed { IfOk result (λ more. (more ≡ false) × (walker.new.closed ≡ walker.old.closed ++ record { worker = walker.old.number; path = path; cause = cause } ∷ [])) }
 {

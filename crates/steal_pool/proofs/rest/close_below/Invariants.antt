@@ -1,8 +1,7 @@
-use Rattle.std.proofs.Common.{◌≡◌, [], None}
-use Rattle.std.specs.Prelude.{option_to_list}
+use Rattle.std.proofs.Common.{◌≡◌, [], ◌∷◌, false}
 use Rattle.best_word.specs.Handles.{IsSeatOf, best_view}
 use Rattle.steal_worker.specs.Flows.{FlowsOn}
-use Rattle.steal_worker.specs.Walks.{Walks, held_places}
+use Rattle.steal_worker.specs.Walks.{Walks, held_places, in_hand}
 use Rattle.steal_pool.proofs.rest.close_below.Given as goal
 
 abbrev pub invariant-loop : goal.invariant-loop
@@ -10,7 +9,7 @@ invariant-loop g l = record {
   seat : IsSeatOf l.word l.walker.seat;
   fits : g.J.Judge.fits l.j l.walker.scratch;
   number : l.walker.number ≡ l.initial.walker.number;
-  none : l.hand ≡ None → held_places l.walker.held ≡ [];
-  walks : Walks (g.J.Judge.meaning l.j) l.walker.number (option_to_list l.hand) (best_view l.walker.seat) (held_places l.walker.held) l.walker.closed;
-  flows : FlowsOn (g.J.Judge.meaning l.j) (option_to_list l.initial.hand) (held_places l.initial.walker.held) l.initial.walker.closed (option_to_list l.hand) (held_places l.walker.held) l.walker.closed;
+  none : l.more ≡ false → held_places l.walker.held ≡ [];
+  walks : Walks (g.J.Judge.meaning l.j) l.walker.number (in_hand l.more l.hand) (best_view l.walker.seat) (held_places l.walker.held) l.walker.closed;
+  flows : FlowsOn (g.J.Judge.meaning l.j) (l.initial.hand ∷ []) (held_places l.initial.walker.held) l.initial.walker.closed (in_hand l.more l.hand) (held_places l.walker.held) l.walker.closed;
 }
