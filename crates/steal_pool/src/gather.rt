@@ -60,15 +60,19 @@ fn take_in<J: Judge>(
     let (theirs, closed) = walker.parts();
     gathered.owners.push(owner)?;
     gathered.rows.push(thieves)?;
-    put_all(&mut gathered.closed, &closed)?;
+    put_all(&mut gathered.closed, closed)?;
     word.join(seat, theirs);
     Ok(())
 }
 
-/// Adds closed boxes behind others.
-pub(crate) fn put_all(all: &mut Items<Closed>, more: &Items<Closed>) -> Result<(), OutOfMemory>
-    ensures { OnOk result (all.new ≡ all.old ++ more.now) }
+/// Adds closed boxes behind others. Where there are none before them, they stay where they are in memory.
+pub(crate) fn put_all(all: &mut Items<Closed>, more: Items<Closed>) -> Result<(), OutOfMemory>
+    ensures { OnOk result (all.new ≡ all.old ++ more) }
 {
+    if all.len() == 0 {
+        *all = more;
+        return Ok(());
+    }
     all.as_vec_mut().extend_from_slice(more.as_slice())?;
     Ok(())
 }

@@ -83,7 +83,7 @@ fn complete<R: Wait, J: Judge, G: Gate>(
     let mut left = Vec::new(alloc);
     close_all(rt, alloc, owners, rows, &mut left)?;
     let more = close_rest(rt, alloc, j, gate, word, seat, workers, left)?;
-    put_all(&mut closed, &more)?;
+    put_all(&mut closed, more)?;
     outcome_of(alloc, word, seat, closed)
 }
 

@@ -83,6 +83,13 @@ module _ {J : Type 0} where
     pub deep : Deep 0 held
     pub hands : Each (λ (p : Place). IsAt m.shape p × (2 ^ (length held) ≤ p.path)) hand
 
+-- the place of the upper half of a place's box joins the private end
+pub record TookUpper (vars : List VarShape) (place : Place) (old new : List Place) : Type 0 where
+  pub upper : Place
+  pub pushed : new ≡ old ++ upper ∷ []
+  pub upper_path : upper.path ≡ 2 * place.path + 1
+  pub upper_at : IsAt vars upper
+
 -- the halves of a place's box: the upper one joins the private end, the lower one is next
 pub record Halved (vars : List VarShape) (place lower : Place) (old new : List Place) : Type 0 where
   pub upper : Place

@@ -1,7 +1,9 @@
 //! The private end of a worker's deque. It takes no memory once it is made.
-ghost use Rattle.std.specs.Prelude.{◌≡◌, ◌<◌, ◌≤◌, List, [], ◌∷◌, ◌++◌, length, false, IfOk, MatchOption};
+ghost use Rattle.std.specs.Prelude.{◌≡◌, ◌<◌, ◌≤◌, List, [], ◌∷◌, ◌++◌, length, false, Some, IfOk, MatchOption};
 ghost use Rattle.std.specs.Prelude.{vec_capacity};
 
+use crate::halves::make_upper;
+use choice_rank::Shape;
 use res_base::OutOfMemory;
 use search_api::Place;
 use std::alloc::Global;
@@ -15,7 +17,10 @@ pub struct Held {
 
 impl Held {
     ghost use Rattle.search_api.specs.declared.place.Place.{Place};
-    ghost use Rattle.steal_worker.specs.Walks.{held_places, in_hand};
+    ghost use Rattle.steal_worker.specs.Walks.{held_places, in_hand, TookUpper};
+    ghost use Rattle.search_api.specs.Places.{IsAt};
+    ghost use Rattle.box_split.specs.BoxIn.{box_in};
+    ghost use Rattle.box_split.specs.Paths.{split_from};
 
     /// A private end that holds nothing.
     pub fn new(alloc: Global) -> Result<Held, OutOfMemory>
@@ -27,12 +32,18 @@ impl Held {
         }
     }
 
-    /// Adds a place, which is the next one.
-    pub fn push(&mut self, place: Place)
-        requires { length (held_places self.old) < 126 }
-        ensures { held_places self.new ≡ held_places self.old ++ place ∷ [] }
+    /// Adds the place of the upper half of a place's box, which is the next one.
+    ///
+    /// The lower half ends at a position of the variable that is split, both as `split_at` finds them.
+    pub(crate) fn push_upper(&mut self, s: &Shape, place: &Place, variable: u16, after: u16)
+        requires room { length (held_places self.old) < 126 }
+        requires at { IsAt s.now place.now }
+        requires split { split_from 0 (box_in s.now place.now.b) ≡ Some (variable, after) }
+        ensures { TookUpper s.now place.now (held_places self.old) (held_places self.new) }
     {
-        self.places.push_reserved(place);
+        let n = self.places.len();
+        self.places.push_reserved(*place);
+        make_upper(s, &mut self.places[n], variable, after);
     }
 
     /// Puts the next place into a hand. The answer is whether there was one.
@@ -40,13 +51,13 @@ impl Held {
         ensures none { result ≡ false → held_places self.new ≡ [] }
         ensures popped { held_places self.old ≡ held_places self.new ++ in_hand result hand.new }
     {
-        match self.places.pop() {
-            Some(place) => {
-                *hand = place;
-                true
-            }
-            None => false,
+        let n = self.places.len();
+        if n == 0 {
+            return false;
         }
+        *hand = self.places[n - 1];
+        let _ = self.places.take_last();
+        true
     }
 
     /// The path of the first place, which would be the last one to be next.

@@ -2,6 +2,7 @@
 #![tactic(auto)]
 
 mod ends;
+mod halves;
 mod held;
 mod stop;
 mod walker;

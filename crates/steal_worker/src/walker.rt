@@ -13,6 +13,7 @@ ghost use Rattle.search_api.specs.Places.{IsAt};
 ghost use Rattle.steal_worker.specs.Flows.{FlowsOn};
 ghost use Rattle.steal_worker.specs.Walks.{Walks, Halved, IsLooked, IsAtMost, known, held_places, in_hand};
 
+use crate::halves::make_lower;
 use crate::held::Held;
 use best_word::{BestSeat, BestWord};
 use box_split::{low, split_at};
@@ -113,13 +114,15 @@ pub fn settle<J: Judge, G: Gate>(
 {
     gate.pass(walker.number, walker.turn);
     walker.turn = walker.turn.wrapping_add(1);
-    let low = place_low(j, place);
-    if let Some(rank) = look(word, &mut walker.seat, low) {
+    if let Some(rank) = look(j, word, &mut walker.seat, place) {
         return close(walker, place.path, Cause::Cut { rank });
     }
     match verdict(j, &mut walker.scratch, place) {
         Verdict::Bad(reason) => close(walker, place.path, Cause::Bad(reason)),
-        Verdict::Legal => keep(word, walker, place.path, low),
+        Verdict::Legal => {
+            let low = place_low(j, place);
+            keep(word, walker, place.path, low)
+        }
         Verdict::Open => {
             halve(j, &mut walker.held, place);
             Ok(true)
@@ -145,15 +148,19 @@ fn verdict<J: Judge>(j: &J, scratch: &mut J::Scratch, place: &Place) -> Verdict
     j.judge(scratch, &place.b)
 }
 
-/// One load of the word, and the rank that it finds where that is below a low.
-fn look<J: Judge>(word: &BestWord<J>, seat: &mut BestSeat<J>, low: u64) -> Option<u64>
-    requires { IsSeatOf word.now seat.old }
+/// One load of the word, and the rank that it finds where that is below the low of a place's box.
+fn look<J: Judge>(j: &J, word: &BestWord<J>, seat: &mut BestSeat<J>, place: &Place) -> Option<u64>
+    requires seat { IsSeatOf word.now seat.old }
+    requires at { IsAt (J.meaning j.now).shape place.now }
     ensures seat { IsSeatOf word.now seat.new }
     ensures looked { IsLooked (best_view seat.old) (best_view seat.new) }
-    ensures cut { MatchOption result (IsAtMost low (known (best_view seat.new))) (λ rank. (rank < low) × Member rank (best_view seat.new).saw) }
+    ensures cut { MatchOption result (IsAtMost (low_of (J.meaning j.now).shape (box_in (J.meaning j.now).shape place.now.b)) (known (best_view seat.new))) (λ rank. (rank < low_of (J.meaning j.now).shape (box_in (J.meaning j.now).shape place.now.b)) × Member rank (best_view seat.new).saw) }
 {
     match word.see(seat) {
-        Some(rank) => { if rank < low { Some(rank) } else { None } }
+        Some(rank) => {
+            let low = place_low(j, place);
+            if rank < low { Some(rank) } else { None }
+        }
         None => None,
     }
 }
@@ -213,6 +220,6 @@ fn halve_in(s: &Shape, held: &mut Held, place: &mut Place)
     let Some((variable, after)) = split_at(s, &place.b) else {
         unreachable!()
     };
-    let upper = place.halve(s, variable, after);
-    held.push(upper);
+    held.push_upper(s, place, variable, after);
+    make_lower(s, place, variable, after);
 }

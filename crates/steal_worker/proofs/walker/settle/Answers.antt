@@ -1,4 +1,4 @@
-use Rattle.std.proofs.Common.{[], ◌∷◌, ◌++◌, inl, refl, sym, ap, subst, arith}
+use Rattle.std.proofs.Common.{[], ◌∷◌, ◌++◌, inl, refl, sym, ap, subst}
 use Rattle.std.proofs.lemmas.Result.{IfOk-weaker}
 use Rattle.best_word.specs.Handles.{best_view}
 use Rattle.best_word.specs.Word.{kept_more}
@@ -7,7 +7,7 @@ use Rattle.box_split.specs.BoxIn.{box_in}
 use Rattle.box_split.proofs.PathLemmas.{path_box, lower_path}
 use Rattle.search_api.specs.declared.outcome.Cause.TheVariants as cause
 use Rattle.search_api.specs.Accounts.{IsLegalRank}
-use Rattle.steal_worker.specs.Walks.{held_places, in_hand, known, IsAtMost}
+use Rattle.steal_worker.specs.Walks.{held_places, in_hand}
 use Rattle.steal_worker.proofs.FlowActs.{flow_close, flow_halve, flows_same}
 use Rattle.steal_worker.proofs.LegalLemmas.{legal_rank}
 use Rattle.steal_worker.proofs.WalkActs.{entry_of, room, walks_look, walks_cut, walks_close, walks_leaf, walks_halve, walks_same}
@@ -22,7 +22,7 @@ returns-in-Some-clause-walks g c =
     let box = box_in m.shape p.b in
     let at = c.requires.walks.hands.0.0 in
     let l = walks_look m w.number (p ∷ []) (best_view w.seat) v (held_places w.held) w.closed c.look.ensures.looked c.requires.walks in
-    let fact = walks_cut m w.number p v (held_places w.held) w.closed box c.in-Some.rank at l.1 (let a = c.place_low-low.ensures in let b = c.in-Some.ensures.cut.0 in omega (arith, a, b)) c.in-Some.ensures.cut.1 l.0 in
+    let fact = walks_cut m w.number p v (held_places w.held) w.closed box c.in-Some.rank at l.1 c.in-Some.ensures.cut.0 c.in-Some.ensures.cut.1 l.0 in
     IfOk-weaker c.close.result _ _ (λ more e. walks_same m w.number c.close.new.walker.number [] (in_hand more p) v (best_view c.close.new.walker.seat) (held_places w.held) (held_places c.close.new.walker.held) (w.closed ++ entry_of w.number p.path (cause.Cut c.in-Some.rank) ∷ []) c.close.new.walker.closed
     (ap (λ x. x.number) c.close.ensures.rest) (ap (λ b. in_hand b p) e.0) (ap (λ x. best_view x.seat) c.close.ensures.rest) (ap (λ x. held_places x.held) c.close.ensures.rest) e.1 fact) c.close.ensures.closed
 
@@ -43,7 +43,7 @@ returns-in-Bad-clause-walks g c =
     let box = box_in m.shape p.b in
     let at = c.requires.walks.hands.0.0 in
     let l = walks_look m w.number (p ∷ []) (best_view w.seat) v (held_places w.held) w.closed c.look.ensures.looked c.requires.walks in
-    let most = subst (λ n. IsAtMost n (known v)) c.place_low-low.ensures c.in_default.ensures.cut in
+    let most = c.in_default.ensures.cut in
     let is_box = path_box m.shape p.path box (g.met.J.Judge.lawful c.args.j.now).is_shape.positions at in
     let why = sym c.in-Bad.ensures.verdict in
     let fact = walks_close m w.number p v (held_places w.held) w.closed box (cause.Bad c.in-Bad.reason) at l.1 refl ((g.met.J.Judge.lawful c.args.j.now).bad_refutes c.in-Bad.reason box is_box why, why) tt most l.0 in
@@ -67,7 +67,7 @@ returns-in-Legal-clause-walks g c =
     let box = box_in m.shape p.b in
     let at = c.requires.walks.hands.0.0 in
     let l = walks_look m w.number (p ∷ []) (best_view w.seat) v (held_places w.held) w.closed c.look.ensures.looked c.requires.walks in
-    let most = subst (λ n. IsAtMost n (known v)) c.place_low-low.ensures c.in_default.ensures.cut in
+    let most = c.in_default.ensures.cut in
     let is_box = path_box m.shape p.path box (g.met.J.Judge.lawful c.args.j.now).is_shape.positions at in
     let low = c.place_low-low.result in
     let law = g.met.J.Judge.lawful c.args.j.now in

@@ -1,0 +1,15 @@
+use Rattle.std.proofs.Common.{Some, sym, ap, ◌∙◌, arith}
+use Rattle.box_split.proofs.PathLemmas.{path_box}
+use Rattle.box_split.proofs.ShortLemmas.{path_below}
+use Rattle.search_api.proofs.PlaceLemmas.{lower_is}
+use Rattle.steal_worker.proofs.halves.make_lower.Goals as goal
+
+pub overflow_mul-place : goal.overflow_mul-place
+overflow_mul-place c = omega (arith, path_below c.args.s.now c.args.place.now.path _ c.vars-vars.ensures.shape c.requires.at)
+
+pub keep_lower-requires-clause-is_box : goal.keep_lower-requires-clause-is_box
+keep_lower-requires-clause-is_box c = path_box c.args.s.now c.args.place.now.path _ c.vars-vars.ensures.shape.positions c.requires.at
+
+pub returns-clause-at : goal.returns-clause-at
+returns-clause-at c =
+    lower_is c.args.s.now c.args.place.now c.args.variable c.args.after c.requires.at c.requires.split ∙ ap Some (sym c.keep_lower.ensures.half)
