@@ -176,6 +176,11 @@ module _ (m : Meaning) (came went : (ℕ → ℕ) → ℕ) (closed : List Closed
   pub open_above : Each (λ (e : Closed). OpenAbove m e.path) closed
   open_above = each_of (λ (e : Closed). OpenAbove m e.path) closed open_there
 
+-- a seat that sees no rank kept none
+pub none_kept : {J : Type 0} (v w : View J) (best : Option ℕ) → MatchOption best (SeesNone v w) (λ r. SeesRank v r w) → best ≡ None → v.kept ≡ []
+none_kept v w None s e = s.1
+none_kept v w (Some r) s e = absurd cc
+
 module _ {J : Type 0} (m : Meaning) (k : ℕ) (came went : (ℕ → ℕ) → ℕ) (v w : View J) (closed : List Closed) (joined : Joined m k came went v closed) (all : (g : ℕ → ℕ) → came g ≡ went g + g 1) (nothing : (g : ℕ → ℕ) → ((p : ℕ) → g p ≡ 0) → came g ≡ 0) (first : v.part ≡ First) (none_out : v.out ≡ 0) where
   account : (best : Option ℕ) → ((r : ℕ) → Member r v.saw → Member r v.kept) → IsBest v.kept best → Accounted m best v.kept closed
   account best saw is = record {

@@ -1,5 +1,5 @@
 //! The search by several workers, and its outcome.
-ghost use Rattle.std.specs.Prelude.{◌≡◌, ℕ, ◌≤◌, ◌++◌, IfOk, OnOk};
+ghost use Rattle.std.specs.Prelude.{◌≡◌, ℕ, ◌≤◌, None, [], ◌++◌, IfOk, OnOk};
 ghost use Rattle.res_base.specs.Lists.{Each};
 ghost use Rattle.best_word.specs.declared.part.Part.TheVariants.{First};
 ghost use Rattle.best_word.specs.Handles.{IsSeatOf, best_view, judge_of};
@@ -98,9 +98,19 @@ fn outcome_of<J: Judge>(
     ensures seat { IsSeatOf word.now seat.new }
     ensures whole { IfOk result (λ o. (o.closed ≡ closed) × ((m : Meaning) (n : ℕ) → IsWhole m n (best_view seat.old) closed → Accounted m o.best o.kept o.closed × Knows o.kept o.closed (best_view seat.new))) }
 {
-    let kept = kept_of(alloc, closed.as_slice())?;
     let best = word.see(seat);
+    let kept = ranks_of(alloc, best, closed.as_slice())?;
     Ok(Outcome { best, kept, closed })
+}
+
+/// The ranks of the leaves, in order. Where there is no best rank there is no leaf, and no box is looked at.
+fn ranks_of(alloc: Global, best: Option<u64>, closed: &[Closed]) -> Result<Items<u64>, OutOfMemory>
+    ensures { IfOk result (λ kept. (best ≡ None → leaf_ranks closed.now ≡ []) → kept ≡ leaf_ranks closed.now) }
+{
+    match best {
+        Some(_) => kept_of(alloc, closed),
+        None => Ok(Items::of(Vec::new(alloc))),
+    }
 }
 
 /// The ranks of the leaves, in order.
