@@ -3,6 +3,7 @@ ghost use Rattle.std.specs.Prelude.{◌+◌, ◌≤◌, ◌<◌, OnOk, vec_len};
 ghost use Rattle.choice_rank.specs.Choices.{HasPositions, HasSmallSizes};
 
 use choice_rank::{Costs, Shape, ShapeFault, VarShape};
+use refusal::Refusal;
 use std::alloc::AllocError;
 use std::test::Fail;
 
@@ -37,7 +38,7 @@ fn widest_shape(rt: HostRuntime) -> Result<(), Fail> {
     assert!(rt;
         matches!(
             Shape::new(rt.alloc(), vars),
-            Err(ShapeFault::TooWide { variable: 32 })
+            Err(Refusal::Fault(ShapeFault::TooWide { variable: 32 }))
         )
     );
     Ok(())

@@ -3,6 +3,7 @@ ghost use Rattle.std.specs.Prelude.{◌≡◌, ◌≢◌, ◌≤◌, ◌<◌, �
 ghost use Rattle.answers.specs.Said.{Says, answered};
 ghost use Rattle.answers.specs.declared.answer.Status.TheVariants as status;
 ghost use Rattle.res_base.specs.Lists.{Each};
+ghost use Rattle.refusal.specs.Refusals.{IfFault};
 ghost use Rattle.choice_rank.specs.Choices.{IsChoice, IsNarrow};
 ghost use Rattle.choice_rank.specs.Least.{IsLeast};
 ghost use Rattle.box_rules.specs.Judged.{pin_meaning, whole_meaning};
@@ -23,8 +24,9 @@ use answers::{Answer, Status, counts};
 use box_judge::{PinClockJudge, PinJudge};
 use choice_rank::ShapeFault;
 use least_search::{Found, found};
-use problem::{Part, Problem, build};
+use problem::{Part, Problem, build, wide_variable};
 use proof_shift::raised;
+use refusal::Refusal;
 use refutation::{Proof, write_proof};
 use res_base::{Items, OutOfMemory};
 use res_model::{Home, Opts, Project, Tables};
@@ -107,8 +109,8 @@ fn clocks_beside(
 {
     match build(alloc, t, fixed(p, q, at), opts, Part::Whole) {
         Ok(one) => Ok(one),
-        Err(ShapeFault::Memory) => Err(OutOfMemory),
-        Err(ShapeFault::TooWide { .. }) => unreachable!(),
+        Err(Refusal::OutOfMemory) => Err(OutOfMemory),
+        Err(Refusal::Fault(_)) => unreachable!(),
     }
 }
 
@@ -198,18 +200,23 @@ fn is_board(t: &Tables, p: &Project, opts: &Opts)
 }
 
 /// The problem of the pins alone, from copies.
-fn pins_alone(alloc: Global, t: &Tables, p: &Project, opts: &Opts) -> Result<Problem, ShapeFault>
+fn pins_alone(
+    alloc: Global,
+    t: &Tables,
+    p: &Project,
+    opts: &Opts,
+) -> Result<Problem, Refusal<ShapeFault>>
     requires { IsBoard t.now p.now opts.now }
     ensures pins { IfOk result (λ q. q ≡ pins_of t.now p.now opts.now) }
     ensures alone { IfOk result (λ q. q.first ≡ 0) }
     ensures narrow { OnOk result (IsNarrow (pins_of t.now p.now opts.now).shape) }
-    ensures refused { IfErr result (IsRefused (pins_of t.now p.now opts.now).shape) }
+    ensures refused { IfErr result (λ e. IfFault e (IsRefused (pins_of t.now p.now opts.now).shape)) }
 {
     let Ok(tables) = t.copy(alloc) else {
-        return Err(ShapeFault::Memory);
+        return Err(Refusal::OutOfMemory);
     };
     let Ok(project) = copied(alloc, p) else {
-        return Err(ShapeFault::Memory);
+        return Err(Refusal::OutOfMemory);
     };
     build(alloc, tables, project, opts, Part::PinsOnly)
 }
@@ -241,7 +248,7 @@ pub fn board(alloc: Global, t: Tables, p: Project, opts: &Opts) -> Result<Answer
     is_board(&t, &p, opts);
     match pins_alone(alloc, &t, &p, opts) {
         Ok(q) => searched(alloc, t, p, opts, q),
-        Err(ShapeFault::TooWide { variable }) => too_wide(alloc, variable),
-        Err(ShapeFault::Memory) => Err(OutOfMemory),
+        Err(Refusal::Fault(fault)) => too_wide(alloc, wide_variable(fault)),
+        Err(Refusal::OutOfMemory) => Err(OutOfMemory),
     }
 }

@@ -7,6 +7,7 @@ use board_fit::board;
 use ioc_project::read_project;
 use ioc_text::{Ioc, read_ioc};
 use mcu_tables::{TableFault, Tables, read_tables};
+use refusal::Refusal;
 use res_base::{Items, OutOfMemory, Text};
 use res_model::{Free, Opts, Project};
 use std::alloc::Global;
@@ -38,7 +39,7 @@ fn options(alloc: Global, count: usize, vdd: u32) -> Result<Opts, OutOfMemory> {
     })
 }
 
-fn tables(alloc: Global) -> Result<Tables, TableFault> {
+fn tables(alloc: Global) -> Result<Tables, Refusal<TableFault>> {
     read_tables(alloc, table().as_bytes())
 }
 

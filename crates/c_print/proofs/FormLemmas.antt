@@ -9,8 +9,8 @@ use Rattle.c_print.specs.declared.part.Part.{Part}
 use Rattle.c_print.specs.declared.part.Part.TheVariants as part
 use Rattle.c_print.specs.Text.{part_text, number_after, count, await_end, op_line}
 use Rattle.c_print.specs.Reading.{FitsLine}
-use Rattle.c_print.specs.Fronts.{Begins, BeginsNone, Below, IsCount}
-use Rattle.c_print.proofs.FrontLemmas.{past, past_text, none_first, none_text}
+use Rattle.c_print.specs.Prefixes.{Begins, BeginsNone, Below, IsCount}
+use Rattle.c_print.proofs.PrefixLemmas.{past, past_text, none_first, none_text}
 use Rattle.c_print.proofs.NumberLemmas.{number_apart, count_apart}
 use Rattle.c_print.proofs.RegisterLemmas.{register_after, register_apart}
 use Rattle.c_print.proofs.LineLemmas.{write_rest, set_rest, clear_rest, modify_rest, limit_rest, want_rest, await_rest}

@@ -3,7 +3,7 @@ use Rattle.std.proofs.Common.{◌≡◌, ◌≢◌, ℕ, zero, suc, ◌<◌, Lis
 use Rattle.c_print.specs.declared.part.Part.{Part}
 use Rattle.c_print.specs.declared.part.Part.TheVariants as part
 use Rattle.c_print.specs.Text.{part_text, answers_part, frame}
-use Rattle.c_print.specs.Fronts.{GoesOn, IsFrameLine}
+use Rattle.c_print.specs.Prefixes.{GoesOn, IsFrameLine}
 
 abbrev pub NoFrameLine : ℕ → Bool → List ℕ → Type 0
 NoFrameLine place over text = (next : Bool) (rest : List ℕ) → IsFrameLine place over text next rest → ⊥

@@ -1,5 +1,5 @@
 mod FormLemmas
-mod FrontLemmas
+mod PrefixLemmas
 mod NumberLemmas
 mod RegisterLemmas
 mod LineLemmas

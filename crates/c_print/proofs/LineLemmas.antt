@@ -16,8 +16,8 @@ use Rattle.c_print.specs.declared.part.Part.{Part}
 use Rattle.c_print.specs.declared.part.Part.TheVariants as part
 use Rattle.c_print.specs.Text.{part_text, digit, digits_1, halves, digits_2, digits_4, digits_8, hex, number_after, count, timeout_name, await_end, op_line, awaits_over, frame, last_lines, body_lines, c_lines, c_text_of}
 use Rattle.c_print.specs.Reading.{FitsLine, onto_line, lines_of}
-use Rattle.c_print.specs.Fronts.{Below, IsCount}
-use Rattle.c_print.proofs.FrontLemmas.{TellsApart, after_both, both}
+use Rattle.c_print.specs.Prefixes.{Below, IsCount}
+use Rattle.c_print.proofs.PrefixLemmas.{TellsApart, after_both, both}
 use Rattle.c_print.proofs.NumberLemmas.{HasNo, no_end, number_apart, count_apart}
 use Rattle.c_print.proofs.RegisterLemmas.{register_after, register_apart}
 

@@ -15,8 +15,8 @@ use Rattle.res_base.proofs.SumLemmas.{bool_cases}
 use Rattle.c_print.specs.declared.part.Part.{Part}
 use Rattle.c_print.specs.declared.part.Part.TheVariants as part
 use Rattle.c_print.specs.Text.{part_text, digit, digits_1, halves, digits_2, digits_4, digits_8, hex, number_after, count}
-use Rattle.c_print.specs.Fronts.{Begins, BeginsNone, Below, IsCount}
-use Rattle.c_print.proofs.FrontLemmas.{TellsApart, after_both, past_text, none_text, join, past, none_first}
+use Rattle.c_print.specs.Prefixes.{Begins, BeginsNone, Below, IsCount}
+use Rattle.c_print.proofs.PrefixLemmas.{TellsApart, after_both, past_text, none_text, join, past, none_first}
 
 -- ---- digits
 digit_same : (n m : ℕ) → digit n ≡ digit m → n ≡ m

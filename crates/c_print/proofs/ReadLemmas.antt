@@ -11,7 +11,7 @@ use Rattle.reg_machine.specs.declared.op.Timeout.TheVariants as timeout
 use Rattle.reg_map.specs.declared.register.Reg.TheVariants as reg
 use Rattle.c_print.specs.Text.{part_text, op_line, is_over_op, awaits_over, frame, last_lines, body_lines, c_lines, c_text_of}
 use Rattle.c_print.specs.Reading.{FitsLine, lines_of, AgreesFor, DepartsAt, Reads}
-use Rattle.c_print.specs.Fronts.{BeginsNone, IsFrameLine, FitsFrame}
+use Rattle.c_print.specs.Prefixes.{BeginsNone, IsFrameLine, FitsFrame}
 use Rattle.c_print.proofs.FrameLemmas.{same_frame}
 use Rattle.c_print.proofs.LineLemmas.{op_apart, not_return, joined, after_frame_lines, frame_front, ops_then_lines, return_then, close_then, text_parts, text_lines}
 

@@ -8,8 +8,8 @@ use Rattle.reg_map.specs.declared.register.Reg.TheVariants as reg
 use Rattle.reg_map.specs.Registers.{address, offset, IsRegister}
 use Rattle.c_print.specs.declared.part.Part.{Part}
 use Rattle.c_print.specs.Text.{number_after}
-use Rattle.c_print.specs.Fronts.{Begins, BeginsNone, Below}
-use Rattle.c_print.proofs.FrontLemmas.{TellsApart}
+use Rattle.c_print.specs.Prefixes.{Begins, BeginsNone, Below}
+use Rattle.c_print.proofs.PrefixLemmas.{TellsApart}
 use Rattle.c_print.proofs.NumberLemmas.{number_apart}
 
 kind_at : ℕ → GpioReg

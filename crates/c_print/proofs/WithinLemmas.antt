@@ -3,7 +3,7 @@ use Rattle.std.proofs.Common.{◌≡◌, ℕ, List, [], ◌∷◌, ◌++◌, Boo
 use Rattle.reg_machine.specs.declared.op.Op.{Op}
 use Rattle.c_print.specs.Text.{op_line, is_over_op, awaits_over}
 use Rattle.c_print.specs.Reading.{FitsLine}
-use Rattle.c_print.specs.Fronts.{Begins, BeginsNone, FitsFrame}
+use Rattle.c_print.specs.Prefixes.{Begins, BeginsNone, FitsFrame}
 use Rattle.c_print.proofs.LineLemmas.{op_apart}
 
 -- where no access stands, none that the third line allows does

@@ -41,7 +41,6 @@ abbrev pub Reads : List ℕ → Result (List Op) ℕ → Type 0
 Reads text (Ok ops) = Each FitsLine ops × (c_text_of ops ≡ text)
 Reads text (Err line) = DepartsAt line text
 
--- what a reader's fault says. Want of memory says nothing of the text
+-- what a reader's fault says
 abbrev pub Refuses : List ℕ → CFault → Type 0
 Refuses text (fault.Line line) = Reads text (Err line)
-Refuses text fault.Memory = Unit {0}

@@ -2,9 +2,9 @@
 #![tactic(auto)]
 
 mod fault;
-mod front;
 mod laws;
 mod part;
+mod prefix;
 mod read;
 mod write;
 

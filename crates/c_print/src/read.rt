@@ -1,13 +1,15 @@
 //! A list of accesses, from its C text.
 ghost use Rattle.std.specs.Prelude.{◌≡◌, ◌+◌, ◌<◌, ◌≤◌, ◌^◌, ◌++◌, ◌||◌, not, map, length, IfOk, IfErr};
 ghost use Rattle.std.specs.List.{concat};
+ghost use Rattle.refusal.specs.Refusals.{IfFault};
 ghost use Rattle.c_print.specs.Text.{op_line, awaits_over, frame};
 ghost use Rattle.c_print.specs.Reading.{FitsLine, Reads, Refuses};
-ghost use Rattle.c_print.specs.Fronts.{TakesOps};
+ghost use Rattle.c_print.specs.Prefixes.{TakesOps};
 
 use crate::fault::CFault;
-use crate::front::{after, frame_line_at, op_within};
 use crate::part::{Part, awaits_over};
+use crate::prefix::{after, frame_line_at, op_within};
+use refusal::Refusal;
 use reg_machine::Op;
 use res_base::OutOfMemory;
 use std::alloc::Global;
@@ -17,27 +19,27 @@ use std::alloc::Global;
 /// Any other text is refused at its first line that is not of a form due there. A line that has no
 /// end is refused too. Where a line is due and the text has come to its end, the refusal names the
 /// number after the last line's.
-pub fn read_c(alloc: Global, text: &[u8]) -> Result<Vec<Op>, CFault>
+pub fn read_c(alloc: Global, text: &[u8]) -> Result<Vec<Op>, Refusal<CFault>>
     requires { length text.now < 2 ^ 32 }
     ensures read { IfOk result (λ ops. Reads text.now (Ok ops.items)) }
-    ensures refused { IfErr result (Refuses text.now) }
+    ensures refused { IfErr result (λ e. IfFault e (Refuses text.now)) }
 {
     let (over, rest) = after_frame(text)?;
     let (ops, rest) = ops_in(alloc, over, rest)?;
     let line = ops.len() as u32 + 7;
     if !are_due(over, ops.as_slice()) {
-        return Err(CFault::Line { line });
+        return Err(Refusal::Fault(CFault::Line { line }));
     }
     let Some(rest) = after(Part::Return, rest) else {
-        return Err(CFault::Line { line });
+        return Err(Refusal::Fault(CFault::Line { line }));
     };
     let Some(rest) = after(Part::Close, rest) else {
-        return Err(CFault::Line { line: line + 1 });
+        return Err(Refusal::Fault(CFault::Line { line: line + 1 }));
     };
     if rest.is_empty() {
         Ok(ops)
     } else {
-        Err(CFault::Line { line: line + 2 })
+        Err(Refusal::Fault(CFault::Line { line: line + 2 }))
     }
 }
 
@@ -49,9 +51,9 @@ fn are_due(over: bool, ops: &[Op]) -> bool
 }
 
 /// What follows the six lines before those of the accesses, and whether the third names the timeouts of over-drive.
-fn after_frame(text: &[u8]) -> Result<(bool, &[u8]), CFault>
+fn after_frame(text: &[u8]) -> Result<(bool, &[u8]), Refusal<CFault>>
     ensures found { IfOk result (λ x. text.now ≡ concat (frame x.0) ++ x.1.now) }
-    ensures refused { IfErr result (Refuses text.now) }
+    ensures refused { IfErr result (λ e. IfFault e (Refuses text.now)) }
 {
     let mut over = false;
     let mut rest = text;
@@ -62,9 +64,9 @@ fn after_frame(text: &[u8]) -> Result<(bool, &[u8]), CFault>
                 rest = others;
             }
             None => {
-                return Err(CFault::Line {
+                return Err(Refusal::Fault(CFault::Line {
                     line: place as u32 + 1,
-                });
+                }));
             }
         }
     }

@@ -1,5 +1,6 @@
 //! The judge of boxes of bit timings, and the checker of proofs about them.
 ghost use Rattle.std.specs.Prelude.{◌≡◌, ◌<◌, ◌^◌, length, IfOk, IfErr, OnOk};
+ghost use Rattle.refusal.specs.Refusals.{IfFault};
 ghost use Rattle.choice_rank.specs.Least.{IsAnswer};
 ghost use Rattle.box_split.specs.Boxes.{IsBox, is_single};
 ghost use Rattle.box_split.specs.BoxIn.{box_in};
@@ -16,6 +17,7 @@ use crate::rules::{is_outside, misses_point, serves};
 use crate::timing::timing_of;
 use box_split::{BoxBuf, is_single};
 use choice_rank::{Costs, Shape, VarShape};
+use refusal::Refusal;
 use refutation::{CheckFault, Proof};
 use res_base::{OutOfMemory, Ratio};
 use search_api::{Judge, Reason, Verdict};
@@ -171,12 +173,16 @@ fn refutes(q: &Request, reason: Reason, b: &BoxBuf) -> bool
 ///
 /// A proof is refused exactly where it is not accepted, with the first node at fault, as
 /// `tree_check` names it.
-pub fn check_can(alloc: Global, j: &CanJudge, proof: &Proof) -> Result<Option<u64>, CheckFault>
+pub fn check_can(
+    alloc: Global,
+    j: &CanJudge,
+    proof: &Proof,
+) -> Result<Option<u64>, Refusal<CheckFault>>
     requires { length proof.now.nodes < 2 ^ 32 }
     ensures bound { IfOk result (λ bound. bound ≡ proof.now.bound) }
     ensures accepted { OnOk result (IsAccepted (can_meaning j.now.request) proof.now.bound proof.now.nodes) }
     ensures answer { OnOk result (IsAnswer can_shape (legal j.now.request) proof.now.bound) }
-    ensures rejected { IfErr result (IsRejected (can_meaning j.now.request) proof.now.bound proof.now.nodes) }
+    ensures rejected { IfErr result (λ e. IfFault e (IsRejected (can_meaning j.now.request) proof.now.bound proof.now.nodes)) }
 {
     tree_check::check(alloc, j, proof)
 }

@@ -1,11 +1,12 @@
 //! Shapes: the ranks of their choices, and the choice of a rank.
 ghost use Rattle.std.specs.Prelude.{◌≡◌, ◌%◌, ◌≤◌, ◌↔◌, IsTrue, length, IfOk, IfErr, OnOk};
 ghost use Rattle.choice_rank.specs.Choices.{IsChoice, IsNarrow, IsShape, HasPositions, HasSmallSizes, choices_of, cost_of, index_of, rank_of};
-ghost use Rattle.choice_rank.specs.Faults.{IsShapeFault};
+ghost use Rattle.choice_rank.specs.Faults.{IsShapeRefusal};
 ghost use Rattle.choice_rank.specs.Weights.{weights_of};
 
 use crate::places::{choice_of, cost_in, index_in};
 use crate::variable::VarShape;
+use refusal::Refusal;
 use res_base::OutOfMemory;
 use std::alloc::Global;
 use std::marker::Model;
@@ -37,17 +38,16 @@ impl Model for Shape {
 pub enum ShapeFault {
     /// The first variable with which ranks reach 2^63.
     TooWide { variable: u16 },
-    Memory,
 }
 
 /// The number of choices, where each rank is below 2^63; else the first variable with which one is not.
-fn measured(vars: &[VarShape]) -> Result<u64, ShapeFault>
+fn measured(vars: &[VarShape]) -> Result<u64, Refusal<ShapeFault>>
     requires few { length vars.now ≤ 170 }
     requires positions { HasPositions vars.now }
     requires sizes { HasSmallSizes vars.now }
     ensures choices { IfOk result (λ n. n ≡ choices_of vars.now) }
     ensures narrow { OnOk result (IsNarrow vars.now) }
-    ensures wide { IfErr result (IsShapeFault vars.now) }
+    ensures wide { IfErr result (IsShapeRefusal vars.now) }
 {
     let mut product: u128 = 1;
     let mut most: u128 = 0;
@@ -56,7 +56,7 @@ fn measured(vars: &[VarShape]) -> Result<u64, ShapeFault>
         product *= u128::from(v.size);
         most += u128::from(v.most());
         if (1 + most) * product > 1 << 63 {
-            return Err(ShapeFault::TooWide { variable: i as u16 });
+            return Err(Refusal::Fault(ShapeFault::TooWide { variable: i as u16 }));
         }
     }
     Ok(product as u64)
@@ -81,13 +81,13 @@ impl Shape {
     /// The shape of these variables.
     ///
     /// `TooWide` names the first variable with which a rank can reach 2^63.
-    pub fn new(alloc: Global, vars: Vec<VarShape>) -> Result<Shape, ShapeFault>
+    pub fn new(alloc: Global, vars: Vec<VarShape>) -> Result<Shape, Refusal<ShapeFault>>
         requires few { length vars.items ≤ 170 }
         requires positions { HasPositions vars.items }
         requires sizes { HasSmallSizes vars.items }
         ensures vars { IfOk result (λ s. s ≡ vars.items) }
         ensures narrow { OnOk result (IsNarrow vars.items) }
-        ensures fault { IfErr result (IsShapeFault vars.items) }
+        ensures fault { IfErr result (IsShapeRefusal vars.items) }
     {
         let choices = measured(vars.as_slice())?;
         match weigh(alloc, vars.as_slice(), choices) {
@@ -96,7 +96,7 @@ impl Shape {
                 weights,
                 choices,
             }),
-            Err(_) => Err(ShapeFault::Memory),
+            Err(_) => Err(Refusal::OutOfMemory),
         }
     }
 

@@ -1,6 +1,6 @@
 //! The words of each command.
 ghost use Rattle.std.specs.Prelude.{◌≡◌, map, string_bytes, IfOk};
-ghost use Rattle.cmd_words.specs.UsageFaults.{Gives};
+ghost use Rattle.refusal.specs.Refusals.{Gives};
 ghost use Rattle.cmd_words.specs.Words.{check_takes, case_takes, tree_takes, check_of, case_of, can_of, i2s_of, trace_of, command_of, IsWithinLimits};
 
 use crate::command::Command;
@@ -12,6 +12,7 @@ use crate::on_projects::{
 use crate::options::{opts_of, read_options, worker_count};
 use crate::requests::read_dma;
 use crate::values::{allowed, number_of, point_of, rate_of, sample_rate_of, tolerance_of};
+use refusal::Refusal;
 use res_base::Text;
 use std::alloc::Global;
 
@@ -22,14 +23,14 @@ const TRACE: [Flag; 1] = [Flag::Vdd];
 /// Commands without options.
 const NONE: [Flag; 0] = [];
 
-fn read_check(alloc: Global, words: &[String]) -> Result<Command, UsageFault>
+fn read_check(alloc: Global, words: &[String]) -> Result<Command, Refusal<UsageFault>>
     ensures gives { Gives (λ c. c) result (check_of (map string_bytes words.now)) }
     ensures limits { IfOk result IsWithinLimits }
 {
     let [tables, project, proof, words @ ..] = words else {
-        return Err(UsageFault::Word {
+        return Err(Refusal::Fault(UsageFault::Word {
             word: words.len() + 2,
-        });
+        }));
     };
     let given = read_options(alloc, &COMMON, words, 5)?;
     Ok(Command::Check {
@@ -40,14 +41,14 @@ fn read_check(alloc: Global, words: &[String]) -> Result<Command, UsageFault>
     })
 }
 
-fn read_trace(alloc: Global, words: &[String]) -> Result<Command, UsageFault>
+fn read_trace(alloc: Global, words: &[String]) -> Result<Command, Refusal<UsageFault>>
     ensures gives { Gives (λ c. c) result (trace_of (map string_bytes words.now)) }
     ensures limits { IfOk result IsWithinLimits }
 {
     let [tables, project, c, answers, words @ ..] = words else {
-        return Err(UsageFault::Word {
+        return Err(Refusal::Fault(UsageFault::Word {
             word: words.len() + 2,
-        });
+        }));
     };
     let given = read_options(alloc, &TRACE, words, 6)?;
     Ok(Command::Trace {
@@ -59,15 +60,15 @@ fn read_trace(alloc: Global, words: &[String]) -> Result<Command, UsageFault>
     })
 }
 
-fn read_case(alloc: Global, words: &[String]) -> Result<Command, UsageFault>
+fn read_case(alloc: Global, words: &[String]) -> Result<Command, Refusal<UsageFault>>
     ensures gives { Gives (λ c. c) result (case_of (map string_bytes words.now)) }
     ensures limits { IfOk result IsWithinLimits }
 {
     let [number, words @ ..] = words else {
-        return Err(UsageFault::Word { word: 2 });
+        return Err(Refusal::Fault(UsageFault::Word { word: 2 }));
     };
     let Some(number) = number_of(number.as_str()) else {
-        return Err(UsageFault::Word { word: 2 });
+        return Err(Refusal::Fault(UsageFault::Word { word: 2 }));
     };
     let given = read_options(alloc, &CASE, words, 3)?;
     Ok(Command::Case {
@@ -76,7 +77,7 @@ fn read_case(alloc: Global, words: &[String]) -> Result<Command, UsageFault>
     })
 }
 
-fn read_can(alloc: Global, words: &[String]) -> Result<Command, UsageFault>
+fn read_can(alloc: Global, words: &[String]) -> Result<Command, Refusal<UsageFault>>
     ensures gives { Gives (λ c. c) result (can_of (map string_bytes words.now)) }
     ensures limits { IfOk result IsWithinLimits }
 {
@@ -97,26 +98,26 @@ fn read_can(alloc: Global, words: &[String]) -> Result<Command, UsageFault>
         [_, _, rate, point] => {
             allowed(rate_of(rate.as_str()), 4)?;
             allowed(point_of(point.as_str()), 5)?;
-            Err(UsageFault::Word { word: 6 })
+            Err(Refusal::Fault(UsageFault::Word { word: 6 }))
         }
         [_, _, rate] => {
             allowed(rate_of(rate.as_str()), 4)?;
-            Err(UsageFault::Word { word: 5 })
+            Err(Refusal::Fault(UsageFault::Word { word: 5 }))
         }
-        _ => Err(UsageFault::Word {
+        _ => Err(Refusal::Fault(UsageFault::Word {
             word: words.len() + 2,
-        }),
+        })),
     }
 }
 
-fn read_i2s(alloc: Global, words: &[String]) -> Result<Command, UsageFault>
+fn read_i2s(alloc: Global, words: &[String]) -> Result<Command, Refusal<UsageFault>>
     ensures gives { Gives (λ c. c) result (i2s_of (map string_bytes words.now)) }
     ensures limits { IfOk result IsWithinLimits }
 {
     let [tables, project, rate, words @ ..] = words else {
-        return Err(UsageFault::Word {
+        return Err(Refusal::Fault(UsageFault::Word {
             word: words.len() + 2,
-        });
+        }));
     };
     let rate = allowed(sample_rate_of(rate.as_str()), 4)?;
     read_options(alloc, &NONE, words, 5)?;
@@ -129,12 +130,12 @@ fn read_i2s(alloc: Global, words: &[String]) -> Result<Command, UsageFault>
 
 /// The command that words ask for, or the first word, from 1, that the grammar does not allow there.
 #[tactic(auto, unfolding(crate::specs::Words::command_of))]
-pub fn read_words(alloc: Global, words: &[String]) -> Result<Command, UsageFault>
+pub fn read_words(alloc: Global, words: &[String]) -> Result<Command, Refusal<UsageFault>>
     ensures gives { Gives (λ c. c) result (command_of (map string_bytes words.now)) }
     ensures limits { IfOk result IsWithinLimits }
 {
     let [command, words @ ..] = words else {
-        return Err(UsageFault::Word { word: 1 });
+        return Err(Refusal::Fault(UsageFault::Word { word: 1 }));
     };
     match command.as_str() {
         "pins" => read_pins(alloc, words),
@@ -149,6 +150,6 @@ pub fn read_words(alloc: Global, words: &[String]) -> Result<Command, UsageFault
         "board" => read_board(alloc, words),
         "explain" => read_explain(alloc, words),
         "trace" => read_trace(alloc, words),
-        _ => Err(UsageFault::Word { word: 1 }),
+        _ => Err(Refusal::Fault(UsageFault::Word { word: 1 })),
     }
 }

@@ -1,12 +1,13 @@
 //! The words of the commands that take a table and a project, and options behind them.
 ghost use Rattle.std.specs.Prelude.{◌≡◌, map, string_bytes, IfOk};
-ghost use Rattle.cmd_words.specs.UsageFaults.{Gives};
+ghost use Rattle.refusal.specs.Refusals.{Gives};
 ghost use Rattle.cmd_words.specs.Words.{common, named, pins_takes, tree_takes, resolve_takes, ioc_takes, pins_of, tree_of, resolve_of, ioc_of, board_of, explain_of, IsLimited, IsWithinLimits};
 
 use crate::command::Command;
 use crate::fault::UsageFault;
 use crate::given::{Flag, Named};
 use crate::options::{opts_of, read_options, worker_count};
+use refusal::Refusal;
 use res_base::Text;
 use std::alloc::Global;
 
@@ -46,14 +47,14 @@ const IOC: [Flag; 7] = [
 ];
 
 /// The names of a table and a project, and the options behind them.
-fn read_named(alloc: Global, takes: &[Flag], words: &[String]) -> Result<Named, UsageFault>
+fn read_named(alloc: Global, takes: &[Flag], words: &[String]) -> Result<Named, Refusal<UsageFault>>
     ensures gives { Gives (λ n. n) result (named takes.now (map string_bytes words.now)) }
     ensures limited { IfOk result (λ n. IsLimited n.given) }
 {
     let [tables, project, words @ ..] = words else {
-        return Err(UsageFault::Word {
+        return Err(Refusal::Fault(UsageFault::Word {
             word: words.len() + 2,
-        });
+        }));
     };
     let given = read_options(alloc, takes, words, 4)?;
     Ok(Named {
@@ -63,7 +64,7 @@ fn read_named(alloc: Global, takes: &[Flag], words: &[String]) -> Result<Named, 
     })
 }
 
-pub(crate) fn read_pins(alloc: Global, words: &[String]) -> Result<Command, UsageFault>
+pub(crate) fn read_pins(alloc: Global, words: &[String]) -> Result<Command, Refusal<UsageFault>>
     ensures gives { Gives (λ c. c) result (pins_of (map string_bytes words.now)) }
     ensures limits { IfOk result IsWithinLimits }
 {
@@ -75,7 +76,7 @@ pub(crate) fn read_pins(alloc: Global, words: &[String]) -> Result<Command, Usag
     })
 }
 
-pub(crate) fn read_tree(alloc: Global, words: &[String]) -> Result<Command, UsageFault>
+pub(crate) fn read_tree(alloc: Global, words: &[String]) -> Result<Command, Refusal<UsageFault>>
     ensures gives { Gives (λ c. c) result (tree_of (map string_bytes words.now)) }
     ensures limits { IfOk result IsWithinLimits }
 {
@@ -87,7 +88,7 @@ pub(crate) fn read_tree(alloc: Global, words: &[String]) -> Result<Command, Usag
     })
 }
 
-pub(crate) fn read_resolve(alloc: Global, words: &[String]) -> Result<Command, UsageFault>
+pub(crate) fn read_resolve(alloc: Global, words: &[String]) -> Result<Command, Refusal<UsageFault>>
     ensures gives { Gives (λ c. c) result (resolve_of (map string_bytes words.now)) }
     ensures limits { IfOk result IsWithinLimits }
 {
@@ -103,7 +104,7 @@ pub(crate) fn read_resolve(alloc: Global, words: &[String]) -> Result<Command, U
     })
 }
 
-pub(crate) fn read_ioc(alloc: Global, words: &[String]) -> Result<Command, UsageFault>
+pub(crate) fn read_ioc(alloc: Global, words: &[String]) -> Result<Command, Refusal<UsageFault>>
     ensures gives { Gives (λ c. c) result (ioc_of (map string_bytes words.now)) }
     ensures limits { IfOk result IsWithinLimits }
 {
@@ -117,7 +118,7 @@ pub(crate) fn read_ioc(alloc: Global, words: &[String]) -> Result<Command, Usage
     })
 }
 
-pub(crate) fn read_board(alloc: Global, words: &[String]) -> Result<Command, UsageFault>
+pub(crate) fn read_board(alloc: Global, words: &[String]) -> Result<Command, Refusal<UsageFault>>
     ensures gives { Gives (λ c. c) result (board_of (map string_bytes words.now)) }
     ensures limits { IfOk result IsWithinLimits }
 {
@@ -129,7 +130,7 @@ pub(crate) fn read_board(alloc: Global, words: &[String]) -> Result<Command, Usa
     })
 }
 
-pub(crate) fn read_explain(alloc: Global, words: &[String]) -> Result<Command, UsageFault>
+pub(crate) fn read_explain(alloc: Global, words: &[String]) -> Result<Command, Refusal<UsageFault>>
     ensures gives { Gives (λ c. c) result (explain_of (map string_bytes words.now)) }
     ensures limits { IfOk result IsWithinLimits }
 {

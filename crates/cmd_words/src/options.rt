@@ -1,12 +1,13 @@
 //! The options that stand after a command's names.
 ghost use Rattle.std.specs.Prelude.{◌≡◌, ◌+◌, ◌^◌, ◌<◌, length, map, string_bytes, OnOk, IfOk};
-ghost use Rattle.cmd_words.specs.UsageFaults.{Gives};
+ghost use Rattle.refusal.specs.Refusals.{Gives};
 ghost use Rattle.cmd_words.specs.Words.{allowed, word_read, options, opts_of, worker_count, IsLimited, IsWorkers, HasLimits};
 
 use crate::fault::UsageFault;
 use crate::flags::{flag_named, is_given};
 use crate::given::{Flag, Given};
 use crate::values::put_value;
+use refusal::Refusal;
 use res_base::Items;
 use res_model::{Free, Opts};
 use std::alloc::Global;
@@ -19,7 +20,7 @@ fn read_word(
     due: Option<Flag>,
     text: &str,
     word: usize,
-) -> Result<Option<Flag>, UsageFault>
+) -> Result<Option<Flag>, Refusal<UsageFault>>
     ensures gives { Gives (λ next. record { given = given.new; due = next }) result (allowed word (word_read takes.now given.old due text.now)) }
     ensures limited { OnOk result (IsLimited given.old → IsLimited given.new) }
 {
@@ -28,10 +29,10 @@ fn read_word(
         return Ok(None);
     }
     let Some(flag) = flag_named(takes, text) else {
-        return Err(UsageFault::Word { word });
+        return Err(Refusal::Fault(UsageFault::Word { word }));
     };
     if is_given(given, flag) {
-        return Err(UsageFault::Word { word });
+        return Err(Refusal::Fault(UsageFault::Word { word }));
     }
     match flag {
         Flag::Proof => {
@@ -48,7 +49,7 @@ pub fn read_options(
     takes: &[Flag],
     words: &[String],
     first: usize,
-) -> Result<Given, UsageFault>
+) -> Result<Given, Refusal<UsageFault>>
     requires { first < 2 ^ 32 }
     ensures gives { Gives (λ given. given) result (options takes.now first (map string_bytes words.now)) }
     ensures limited { IfOk result IsLimited }
@@ -69,9 +70,9 @@ pub fn read_options(
     }
     match due {
         None => Ok(given),
-        Some(_) => Err(UsageFault::Word {
+        Some(_) => Err(Refusal::Fault(UsageFault::Word {
             word: first + words.len(),
-        }),
+        })),
     }
 }
 

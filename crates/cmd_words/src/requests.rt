@@ -1,13 +1,14 @@
 //! The words of `dma`: requests, and the options behind them.
 ghost use Rattle.std.specs.Prelude.{◌≡◌, ◌≤◌, drop, length, map, string_bytes, IfOk};
 ghost use Rattle.std.specs.List.{position};
-ghost use Rattle.cmd_words.specs.UsageFaults.{Gives};
+ghost use Rattle.refusal.specs.Refusals.{Gives};
 ghost use Rattle.cmd_words.specs.Words.{dma_of, is_option, names_before, requested, requests_of, IsWithinLimits};
 
 use crate::command::Command;
 use crate::fault::UsageFault;
 use crate::given::Flag;
 use crate::options::{read_options, worker_count};
+use refusal::Refusal;
 use res_base::{Items, OutOfMemory, Text};
 use std::alloc::Global;
 
@@ -63,16 +64,16 @@ fn read_requests(
     tables: &str,
     requests: &[String],
     words: &[String],
-) -> Result<Command, UsageFault>
+) -> Result<Command, Refusal<UsageFault>>
     ensures gives { Gives (λ c. c) result (requested tables.now (map string_bytes requests.now) (map string_bytes words.now)) }
     ensures limits { IfOk result IsWithinLimits }
 {
     let count = requests.len();
     if count == 0 {
-        return Err(UsageFault::Word { word: 3 });
+        return Err(Refusal::Fault(UsageFault::Word { word: 3 }));
     }
     if count > MOST_REQUESTS {
-        return Err(UsageFault::Word { word: 19 });
+        return Err(Refusal::Fault(UsageFault::Word { word: 19 }));
     }
     let given = read_options(alloc, &DMA, words, 3 + count)?;
     Ok(Command::Dma {
@@ -83,7 +84,7 @@ fn read_requests(
 }
 
 /// The words behind the table: requests, and options.
-fn read_rest(alloc: Global, tables: &str, words: &[String]) -> Result<Command, UsageFault>
+fn read_rest(alloc: Global, tables: &str, words: &[String]) -> Result<Command, Refusal<UsageFault>>
     ensures gives { Gives (λ c. c) result (requests_of tables.now (map string_bytes words.now)) }
     ensures limits { IfOk result IsWithinLimits }
 {
@@ -92,12 +93,12 @@ fn read_rest(alloc: Global, tables: &str, words: &[String]) -> Result<Command, U
 }
 
 /// The words of `dma` behind it.
-pub(crate) fn read_dma(alloc: Global, words: &[String]) -> Result<Command, UsageFault>
+pub(crate) fn read_dma(alloc: Global, words: &[String]) -> Result<Command, Refusal<UsageFault>>
     ensures gives { Gives (λ c. c) result (dma_of (map string_bytes words.now)) }
     ensures limits { IfOk result IsWithinLimits }
 {
     let [tables, words @ ..] = words else {
-        return Err(UsageFault::Word { word: 2 });
+        return Err(Refusal::Fault(UsageFault::Word { word: 2 }));
     };
     read_rest(alloc, tables.as_str(), words)
 }

@@ -1,11 +1,12 @@
 //! Values of words: numbers within their bounds, and what may be free.
 ghost use Rattle.std.specs.Prelude.{◌≡◌, ◌≤◌, IfSome, OnOk};
 ghost use Rattle.res_model.specs.Numbers.{number_of, number_up_to};
-ghost use Rattle.cmd_words.specs.UsageFaults.{Gives};
+ghost use Rattle.refusal.specs.Refusals.{Gives};
 ghost use Rattle.cmd_words.specs.Words.{allowed, free_of, number_from, point_of, rate_of, sample_rate_of, tolerance_of, workers_of, with_value, IsWorkers, IsLimited};
 
 use crate::fault::UsageFault;
 use crate::given::{Flag, Given};
+use refusal::Refusal;
 use res_base::{Text, parse_dec};
 use res_model::Free;
 use std::alloc::Global;
@@ -110,12 +111,12 @@ fn free_of(word: &str) -> Option<Free>
 }
 
 /// The value, where the word of this number has one.
-pub fn allowed<T: Drop>(value: Option<T>, word: usize) -> Result<T, UsageFault>
+pub fn allowed<T: Drop>(value: Option<T>, word: usize) -> Result<T, Refusal<UsageFault>>
     ensures { Gives (λ v. v) result (allowed word value) }
 {
     match value {
         Some(value) => Ok(value),
-        None => Err(UsageFault::Word { word }),
+        None => Err(Refusal::Fault(UsageFault::Word { word })),
     }
 }
 
@@ -126,7 +127,7 @@ pub fn put_value(
     flag: Flag,
     value: &str,
     word: usize,
-) -> Result<(), UsageFault>
+) -> Result<(), Refusal<UsageFault>>
     ensures gives { Gives (λ _. given.new) result (allowed word (with_value flag value.now given.old)) }
     ensures limited { OnOk result (IsLimited given.old → IsLimited given.new) }
 {
@@ -138,7 +139,7 @@ pub fn put_value(
         Flag::Pclk2 => given.pclk2 = Some(allowed(number_up_to(MOST_HERTZ, value), word)?),
         Flag::Free => given.free = Some(allowed(free_of(value), word)?),
         Flag::Workers => given.workers = Some(allowed(workers_of(value), word)? as u32),
-        Flag::Proof => return Err(UsageFault::Word { word }),
+        Flag::Proof => return Err(Refusal::Fault(UsageFault::Word { word })),
     }
     Ok(())
 }

@@ -7,6 +7,7 @@ use box_judge::PinJudge;
 use choice_rank::ShapeFault;
 use problem::{Part, Problem, build};
 use project_reading::{Opened, open_project};
+use refusal::Refusal;
 use res_base::{Items, OutOfMemory, Text};
 use res_model::{Free, Opts, Project, Tables};
 use std::alloc::Global;
@@ -42,7 +43,7 @@ fn options(alloc: Global) -> Result<Opts, OutOfMemory> {
 }
 
 /// The problem of the pins alone.
-fn built(alloc: Global, t: Tables, p: Project, opts: &Opts) -> Result<Problem, ShapeFault>
+fn built(alloc: Global, t: Tables, p: Project, opts: &Opts) -> Result<Problem, Refusal<ShapeFault>>
     requires read { IsRead t opts.now false p }
     requires hertz { p.hse_hz < 2 ^ 32 }
 {

@@ -5,6 +5,7 @@ use answers::{Answer, Status};
 use dma_model::DmaTable;
 use dma_rules::{DmaFault, DmaWant, check_dma, dma_answer};
 use dma_table::read_dma;
+use refusal::Refusal;
 use refutation::{CheckFault, read_proof};
 use res_base::Text;
 use res_io::NoGate;
@@ -38,8 +39,8 @@ fn wanted(alloc: Global, table: &DmaTable, words: &[Text]) -> Result<Result<DmaW
     }
     match DmaWant::new(alloc, table, words) {
         Ok(want) => Ok(Ok(want)),
-        Err(DmaFault::Request { number }) => Ok(Err(number)),
-        Err(DmaFault::Memory) => Ok(Err(18)),
+        Err(Refusal::Fault(DmaFault::Request { number })) => Ok(Err(number)),
+        Err(Refusal::OutOfMemory) => Ok(Err(18)),
     }
 }
 
@@ -211,8 +212,8 @@ fn checked(alloc: Global, line: &str, text: &str) -> Result<Result<Option<u64>, 
     }
     match check_dma(alloc, &want, &proof) {
         Ok(bound) => Ok(Ok(bound)),
-        Err(CheckFault::Rejected { node }) => Ok(Err(node)),
-        Err(CheckFault::Memory) => Ok(Err(99)),
+        Err(Refusal::Fault(CheckFault::Rejected { node })) => Ok(Err(node)),
+        Err(Refusal::OutOfMemory) => Ok(Err(99)),
     }
 }
 

@@ -1,6 +1,7 @@
 //! Which fault comes first, and what the requests say.
 use dma_model::{DmaRequest, DmaTable};
 use dma_table::{TableFault, read_dma};
+use refusal::Refusal;
 use std::alloc::{AllocError, Global};
 use std::test::Fail;
 
@@ -40,12 +41,24 @@ fn cases() -> &'static str {
 fn answer(alloc: Global, text: &str) -> Result<String, AllocError> {
     match read_dma(alloc, text.as_bytes()) {
         Ok(_) => String::from_str(alloc, "read"),
-        Err(TableFault::NotJson) => String::from_str(alloc, "not json"),
-        Err(TableFault::Missing { path }) => format!(in alloc; "missing {}", path.as_str()),
-        Err(TableFault::BadField { path }) => format!(in alloc; "field {}", path.as_str()),
-        Err(TableFault::Repeated { path }) => format!(in alloc; "repeated {}", path.as_str()),
-        Err(TableFault::ResetIllegal { limit }) => format!(in alloc; "reset {limit}"),
-        Err(TableFault::Memory) => Err(AllocError),
+        Err(Refusal::Fault(TableFault::NotJson)) => String::from_str(alloc, "not json"),
+        Err(Refusal::Fault(TableFault::Missing { path })) => format!(in alloc;
+            "missing {}",
+            path.as_str()
+        ),
+        Err(Refusal::Fault(TableFault::BadField { path })) => format!(in alloc;
+            "field {}",
+            path.as_str()
+        ),
+        Err(Refusal::Fault(TableFault::Repeated { path })) => format!(in alloc;
+            "repeated {}",
+            path.as_str()
+        ),
+        Err(Refusal::Fault(TableFault::ResetIllegal { limit })) => format!(in alloc;
+            "reset {}",
+            limit.number()
+        ),
+        Err(Refusal::OutOfMemory) => Err(AllocError),
     }
 }
 

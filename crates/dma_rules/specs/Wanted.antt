@@ -4,7 +4,7 @@ use Rattle.res_base.specs.Lists.{Each, Member, Pairwise}
 use Rattle.dma_model.specs.Requests.{IsRequest}
 use Rattle.dma_model.specs.declared.table.DmaRequest.{DmaRequest}
 use Rattle.dma_rules.specs.declared.want.DmaFault.{DmaFault}
-use Rattle.dma_rules.specs.declared.want.DmaFault.TheVariants.{Memory, Request}
+use Rattle.dma_rules.specs.declared.want.DmaFault.TheVariants.{Request}
 
 -- each word names a request of the table, no two the same one, and these are the requests in the order of the words
 pub record AreWanted (table : List DmaRequest) (words : List (List ℕ)) (requests : List DmaRequest) : Type 0 where
@@ -39,10 +39,9 @@ pub record IsFirstBad (table : List DmaRequest) (words : List (List ℕ)) (numbe
   pub bad : IsBad table words (number - 1)
   pub first : (place : ℕ) → place + 1 < number → IsBad table words place → ⊥
 
--- memory may always run out
+-- the fault names the first word that is bad
 abbrev pub IsRefused : List DmaRequest → List (List ℕ) → DmaFault → Type 0
 IsRefused table words (Request number) = IsFirstBad table words number
-IsRefused table words Memory = Unit {0}
 
 -- what wanted requests keep: they are 1 to 16, as a table has them, and no two have one name
 pub record IsWant (requests : List DmaRequest) : Type 0 where

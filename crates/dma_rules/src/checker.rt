@@ -1,6 +1,7 @@
 //! The checker of refutations.
 ghost use Rattle.std.specs.Prelude.{◌≡◌, ◌≤◌, ◌<◌, ◌^◌, ◌&&◌, ℕ, length, IfErr, IfOk, OnOk, not, nat_lt};
 ghost use Rattle.res_base.specs.VarSet.{in_set};
+ghost use Rattle.refusal.specs.Refusals.{IfFault};
 ghost use Rattle.box_split.specs.BoxIn.{box_in, runs_in};
 ghost use Rattle.box_split.specs.Boxes.{IsBox};
 ghost use Rattle.choice_rank.specs.Choices.{IsChoice};
@@ -18,6 +19,7 @@ use crate::want::DmaWant;
 use box_split::BoxBuf;
 use choice_rank::Shape;
 use dma_model::DmaRequest;
+use refusal::Refusal;
 use refutation::{CheckFault, Proof};
 use res_base::VarSet;
 use search_api::{Class, Reason};
@@ -145,12 +147,16 @@ fn can_be_judged(w: &DmaWant)
 /// stream, or none where there is no such choice.
 ///
 /// A proof is refused exactly where it is not accepted, with the first node at fault, as `tree_check` names it.
-pub fn check_dma(alloc: Global, w: &DmaWant, proof: &Proof) -> Result<Option<u64>, CheckFault>
+pub fn check_dma(
+    alloc: Global,
+    w: &DmaWant,
+    proof: &Proof,
+) -> Result<Option<u64>, Refusal<CheckFault>>
     requires { length proof.now.nodes < 2 ^ 32 }
     ensures bound { IfOk result (λ bound. bound ≡ proof.now.bound) }
     ensures accepted { OnOk result (IsAccepted (dma_meaning w.now) proof.now.bound proof.now.nodes) }
     ensures answer { OnOk result (IsAnswer (shape_of w.now) (meets w.now) proof.now.bound) }
-    ensures rejected { IfErr result (IsRejected (dma_meaning w.now) proof.now.bound proof.now.nodes) }
+    ensures rejected { IfErr result (λ e. IfFault e (IsRejected (dma_meaning w.now) proof.now.bound proof.now.nodes)) }
 {
     can_be_judged(w);
     tree_check::check(alloc, w, proof)

@@ -3,12 +3,14 @@ ghost use Rattle.std.specs.Prelude.{◌≡◌, ◌≤◌, ◌<◌, ◌+◌, leng
 ghost use Rattle.std.specs.List.{list_any};
 ghost use Rattle.std.specs.Str.{bytes_eq};
 ghost use Rattle.res_base.specs.Lists.{Each};
+ghost use Rattle.refusal.specs.Refusals.{IfFault};
 ghost use Rattle.dma_rules.specs.Judged.{HasRows};
 ghost use Rattle.dma_rules.specs.Streams.{shape_of, variable_of};
 ghost use Rattle.dma_rules.specs.Wanted.{AreWanted, IsAsked, IsBad, IsRefused, IsWant, word_at};
 
 use choice_rank::{Costs, Shape, VarShape};
 use dma_model::{DmaRequest, DmaRow, DmaTable};
+use refusal::Refusal;
 use res_base::{Items, OutOfMemory, Text};
 use std::alloc::Global;
 use std::marker::Model;
@@ -38,18 +40,6 @@ impl Model for DmaWant {
 pub enum DmaFault {
     /// The word of this number, from 1, is the first that names no request, or the same as an earlier word.
     Request { number: u32 },
-    Memory,
-}
-
-impl From<OutOfMemory> for DmaFault {
-    ghost use Rattle.std.specs.Prelude.{◌≡◌};
-    ghost use Rattle.dma_rules.specs.declared.want.DmaFault.TheVariants.{Memory};
-
-    ghost from_gives = { λ _ e. e ≡ Memory };
-
-    fn from(_e: OutOfMemory) -> DmaFault {
-        DmaFault::Memory
-    }
 }
 
 impl DmaWant {
@@ -59,11 +49,11 @@ impl DmaWant {
     ///
     /// `Request` comes exactly where a word names no request of the table or is the same as an earlier one, with the
     /// first such word, counted from 1.
-    pub fn new(alloc: Global, t: &DmaTable, requests: &[Text]) -> Result<DmaWant, DmaFault>
+    pub fn new(alloc: Global, t: &DmaTable, requests: &[Text]) -> Result<DmaWant, Refusal<DmaFault>>
         requires some { 1 ≤ length requests.now }
         requires few { length requests.now ≤ 16 }
         ensures wanted { IfOk result (AreWanted t.now requests.now) }
-        ensures refused { IfErr result (IsRefused t.now requests.now) }
+        ensures refused { IfErr result (λ e. IfFault e (IsRefused t.now requests.now)) }
     {
         let wanted = wanted_of(alloc, t.requests(), requests)?;
         keep_bounds(t, requests, &wanted);
@@ -160,17 +150,17 @@ fn add_asked(
     words: &[Text],
     place: usize,
     found: &mut Items<DmaRequest>,
-) -> Result<(), DmaFault>
+) -> Result<(), Refusal<DmaFault>>
     requires place { place < length words.now }
     requires few { length words.now ≤ 16 }
     requires wanted { AreWanted table.now (take place words.now) found.old }
     ensures wanted { OnOk result (AreWanted table.now (take (place + 1) words.now) found.new) }
-    ensures refused { IfErr result (IsRefused table.now words.now) }
+    ensures refused { IfErr result (λ e. IfFault e (IsRefused table.now words.now)) }
 {
     let Some(request) = asked_at(table, words, place) else {
-        return Err(DmaFault::Request {
+        return Err(Refusal::Fault(DmaFault::Request {
             number: place as u32 + 1,
-        });
+        }));
     };
     let copied = copy_request(alloc, request)?;
     found.push(copied)?;
@@ -182,10 +172,10 @@ fn wanted_of(
     alloc: Global,
     table: &[DmaRequest],
     words: &[Text],
-) -> Result<Items<DmaRequest>, DmaFault>
+) -> Result<Items<DmaRequest>, Refusal<DmaFault>>
     requires { length words.now ≤ 16 }
     ensures wanted { IfOk result (AreWanted table.now words.now) }
-    ensures refused { IfErr result (IsRefused table.now words.now) }
+    ensures refused { IfErr result (λ e. IfFault e (IsRefused table.now words.now)) }
 {
     let mut found = Items::of(Vec::new(alloc));
     for place in 0..words.len() {

@@ -11,6 +11,7 @@ use dma_model::{DmaRequest, DmaRow};
 use mcu_tables::{
     Flaw, Key, Place, Spot, check_object, counted_at, member_of, needed, number_at, text_at,
 };
+use refusal::Refusal;
 use res_base::{Items, Text};
 use serde_json::Value;
 use std::alloc::Global;
@@ -43,11 +44,11 @@ fn has_row(before: &[DmaRow], r: DmaRow) -> bool
 
 /// The row, where no row before equals it.
 #[tactic(auto, unfolding(crate::specs::Reading::new_row))]
-fn new_row(before: &[DmaRow], at: Place, r: DmaRow) -> Result<DmaRow, Flaw>
+fn new_row(before: &[DmaRow], at: Place, r: DmaRow) -> Result<DmaRow, Refusal<Flaw>>
     ensures { Reads (λ r. r) result (new_row before.now (spelled at) r) }
 {
     if has_row(before, r) {
-        Err(Flaw::Repeated(at))
+        Err(Refusal::Fault(Flaw::Repeated(at)))
     } else {
         Ok(r)
     }
@@ -55,11 +56,11 @@ fn new_row(before: &[DmaRow], at: Place, r: DmaRow) -> Result<DmaRow, Flaw>
 
 /// A row from a list of controller, stream and channel. Each fault is at the row.
 #[tactic(auto, unfolding(crate::specs::Reading::row))]
-fn row_at(before: &[DmaRow], at: Place, value: &Value) -> Result<DmaRow, Flaw>
+fn row_at(before: &[DmaRow], at: Place, value: &Value) -> Result<DmaRow, Refusal<Flaw>>
     ensures { Reads (λ r. r) result (row before.now (spelled at) (view value.now)) }
 {
     let Some((controller, stream, channel)) = three_of(value) else {
-        return Err(Flaw::BadField(at));
+        return Err(Refusal::Fault(Flaw::BadField(at)));
     };
     let controller = number_at(1, 2, at, controller)?;
     let stream = number_at(0, 7, at, stream)?;
@@ -75,7 +76,7 @@ fn row_at(before: &[DmaRow], at: Place, value: &Value) -> Result<DmaRow, Flaw>
     )
 }
 
-fn each_row(alloc: Global, at: Spot, values: &[Value]) -> Result<Vec<DmaRow>, Flaw>
+fn each_row(alloc: Global, at: Spot, values: &[Value]) -> Result<Vec<DmaRow>, Refusal<Flaw>>
     ensures { Reads (λ v. v.items) result (entries_after row (path_of at) [] (map view values.now)) }
 {
     let mut found = Vec::new(alloc);
@@ -88,7 +89,7 @@ fn each_row(alloc: Global, at: Spot, values: &[Value]) -> Result<Vec<DmaRow>, Fl
 
 /// The rows of a request.
 #[tactic(auto, unfolding(mcu_tables::specs::Table::list))]
-fn rows_of(alloc: Global, at: Spot, value: &Value) -> Result<Items<DmaRow>, Flaw>
+fn rows_of(alloc: Global, at: Spot, value: &Value) -> Result<Items<DmaRow>, Refusal<Flaw>>
     ensures { Reads (λ v. v) result (list 1 8 row (path_of at) (view value.now)) }
 {
     let values = counted_at(at, value, 1, 8)?;
@@ -103,12 +104,12 @@ fn has_name(before: &[DmaRequest], name: &str) -> bool
 
 /// A name that no request before has.
 #[tactic(auto, unfolding(crate::specs::Reading::request_name))]
-fn name_at<'v>(before: &[DmaRequest], at: Place, value: &'v Value) -> Result<&'v str, Flaw>
+fn name_at<'v>(before: &[DmaRequest], at: Place, value: &'v Value) -> Result<&'v str, Refusal<Flaw>>
     ensures { Reads (λ s. s.now) result (request_name before.now (spelled at) (view value.now)) }
 {
     let name = text_at(at, value)?;
     if has_name(before, name) {
-        Err(Flaw::Repeated(at))
+        Err(Refusal::Fault(Flaw::Repeated(at)))
     } else {
         Ok(name)
     }
@@ -121,7 +122,7 @@ fn request_at(
     before: &[DmaRequest],
     i: usize,
     value: &Value,
-) -> Result<DmaRequest, Flaw>
+) -> Result<DmaRequest, Refusal<Flaw>>
     ensures { Reads (λ r. r) result (request before.now (entry_path Key.Dma i) (view value.now)) }
 {
     check_object(Place::Entry(Spot::Top(Key::Dma), i), value)?;
@@ -137,7 +138,7 @@ fn request_at(
     Ok(DmaRequest { name, at: rows })
 }
 
-fn each_request(alloc: Global, values: &[Value]) -> Result<Vec<DmaRequest>, Flaw>
+fn each_request(alloc: Global, values: &[Value]) -> Result<Vec<DmaRequest>, Refusal<Flaw>>
     ensures { Reads (λ v. v.items) result (entries_after request (path_of (Spot.Top Key.Dma)) [] (map view values.now)) }
 {
     let mut found = Vec::new(alloc);
@@ -150,7 +151,7 @@ fn each_request(alloc: Global, values: &[Value]) -> Result<Vec<DmaRequest>, Flaw
 
 /// The requests of the list.
 #[tactic(auto, unfolding(mcu_tables::specs::Table::list))]
-pub(crate) fn requests_of(alloc: Global, value: &Value) -> Result<Items<DmaRequest>, Flaw>
+pub(crate) fn requests_of(alloc: Global, value: &Value) -> Result<Items<DmaRequest>, Refusal<Flaw>>
     ensures { Reads (λ v. v) result (list 0 200 request (path_of (Spot.Top Key.Dma)) (view value.now)) }
 {
     let values = counted_at(Spot::Top(Key::Dma), value, 0, 200)?;

@@ -1,19 +1,20 @@
 //! The list of requests, from the bytes of a table.
 ghost use Rattle.mcu_tables.specs.Places.{Reads};
-ghost use Rattle.mcu_tables.specs.TableFaults.{Gives};
+ghost use Rattle.refusal.specs.Refusals.{Gives};
 ghost use Rattle.serde_json.specs.View.{view};
 ghost use Rattle.dma_table.specs.Reading.{dma_of, requests};
 
 use crate::entries::requests_of;
 use dma_model::{DmaRequest, DmaTable};
 use mcu_tables::{Flaw, Key, Spot, TableFault, member_of, needed, spelled_fault, value_of};
+use refusal::Refusal;
 use res_base::Items;
 use serde_json::Value;
 use std::alloc::Global;
 
 /// The member `dma` of a table.
 #[tactic(auto, unfolding(crate::specs::Reading::requests))]
-fn requests(alloc: Global, root: &Value) -> Result<Items<DmaRequest>, Flaw>
+fn requests(alloc: Global, root: &Value) -> Result<Items<DmaRequest>, Refusal<Flaw>>
     ensures { Reads (λ rs. rs) result (requests (view root.now)) }
 {
     let value = needed(member_of(root, Key::Dma), Spot::Top(Key::Dma))?;
@@ -21,7 +22,7 @@ fn requests(alloc: Global, root: &Value) -> Result<Items<DmaRequest>, Flaw>
 }
 
 #[tactic(auto, unfolding(crate::specs::Reading::dma_of))]
-fn list_of(alloc: Global, bytes: &[u8]) -> Result<Items<DmaRequest>, Flaw>
+fn list_of(alloc: Global, bytes: &[u8]) -> Result<Items<DmaRequest>, Refusal<Flaw>>
     ensures { Reads (λ rs. rs) result (dma_of bytes.now) }
 {
     let root = value_of(alloc, bytes)?;
@@ -33,11 +34,12 @@ fn list_of(alloc: Global, bytes: &[u8]) -> Result<Items<DmaRequest>, Flaw>
 /// `/dma` is a list of at most 200 objects. Each has a `name` of 1 to 64 printing bytes without blanks, which no other
 /// has, and in `at` a list of 1 to 8 distinct rows: controller 1 or 2, stream 0 to 7, channel 0 to 7. The fault is the
 /// first in this order, with its path, as in `/dma/0/at/1`.
-pub fn read_dma(alloc: Global, text: &[u8]) -> Result<DmaTable, TableFault>
+pub fn read_dma(alloc: Global, text: &[u8]) -> Result<DmaTable, Refusal<TableFault>>
     ensures { Gives (λ t. t) result (dma_of text.now) }
 {
     match list_of(alloc, text) {
         Ok(requests) => Ok(DmaTable::of(requests)),
-        Err(flaw) => Err(spelled_fault(alloc, flaw)),
+        Err(Refusal::Fault(flaw)) => Err(Refusal::Fault(spelled_fault(alloc, flaw)?)),
+        Err(Refusal::OutOfMemory) => Err(Refusal::OutOfMemory),
     }
 }

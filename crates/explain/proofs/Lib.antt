@@ -1,3 +1,2 @@
 pub mod HelpLemmas
-pub mod RefusedLemmas
 pub mod ThingLemmas

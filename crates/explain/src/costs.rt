@@ -9,11 +9,11 @@ ghost use Rattle.explain.specs.Left.{ComesTo, HasCost, IsLeastCost, lines_left, 
 use crate::kinds::Thing;
 use crate::left::{line_of, opts_left};
 use box_judge::PinClockJudge;
-use choice_rank::ShapeFault;
-use ioc_project::{ProjectFault, read_project};
+use ioc_project::read_project;
 use ioc_text::Ioc;
 use least_search::{Found, found};
-use problem::{Part, Problem, build};
+use problem::{Part, Problem, build, wide_variable};
+use refusal::Refusal;
 use res_base::OutOfMemory;
 use res_model::{Opts, Project, Tables};
 use std::alloc::Global;
@@ -65,18 +65,8 @@ fn project_cost(
     hertz_fit(&t);
     match build(alloc, t, p, opts, Part::Whole) {
         Ok(problem) => least_cost(alloc, problem),
-        Err(ShapeFault::TooWide { variable }) => wide_cost(variable),
-        Err(ShapeFault::Memory) => Err(OutOfMemory),
-    }
-}
-
-/// That a project that is refused has no cost.
-fn refused_cost(fault: ProjectFault) -> Result<Option<u32>, OutOfMemory>
-    ensures { IfOk result (λ cost. (fault ≢ ProjectFault.Memory) × (cost ≡ None)) }
-{
-    match fault {
-        ProjectFault::Memory => Err(OutOfMemory),
-        _ => Ok(None),
+        Err(Refusal::Fault(fault)) => wide_cost(wide_variable(fault)),
+        Err(Refusal::OutOfMemory) => Err(OutOfMemory),
     }
 }
 
@@ -89,7 +79,8 @@ fn cost_left(alloc: Global, t: &Tables, ioc: &Ioc, opts: &Opts) -> Result<Option
             let tables = t.copy(alloc)?;
             project_cost(alloc, tables, project, opts)
         }
-        Err(fault) => refused_cost(fault),
+        Err(Refusal::Fault(_)) => Ok(None),
+        Err(Refusal::OutOfMemory) => Err(OutOfMemory),
     }
 }
 

@@ -18,11 +18,11 @@ use crate::helps::helps;
 use crate::words::put_number;
 use answers::{Answer, Status, counts};
 use box_judge::PinClockJudge;
-use choice_rank::ShapeFault;
 use explain_text::{changes_text, why_text};
 use ioc_text::read_ioc;
 use least_search::{Found, found};
-use problem::{Part, Problem, build};
+use problem::{Part, Problem, build, wide_variable};
+use refusal::Refusal;
 use refutation::Proof;
 use res_base::{Items, OutOfMemory};
 use res_model::{Home, Opts, Project, Tables};
@@ -195,7 +195,7 @@ pub fn explain(
     let homes = p.clock;
     match build(alloc, t, p, opts, Part::Whole) {
         Ok(problem) => narrow(alloc, &homes, problem, text, opts),
-        Err(ShapeFault::TooWide { variable }) => too_wide(alloc, variable),
-        Err(ShapeFault::Memory) => Err(OutOfMemory),
+        Err(Refusal::Fault(fault)) => too_wide(alloc, wide_variable(fault)),
+        Err(Refusal::OutOfMemory) => Err(OutOfMemory),
     }
 }

@@ -1,6 +1,6 @@
 -- What is said of a limit that nothing can meet: what it asks, and by how much it is missed over all values of the clock
 -- variables.
-use Rattle.std.specs.Prelude.{ℕ, ◌-◌, ◌==◌, ◌++◌, List, [], ◌∷◌, Bool, true, false, length, max, Option, Some, None, codes, decimal, if◌then◌else◌, slice_index}
+use Rattle.std.specs.Prelude.{ℕ, ◌-◌, ◌++◌, List, [], ◌∷◌, Bool, true, false, length, max, Option, Some, None, codes, decimal, if◌then◌else◌, slice_index}
 use Rattle.res_base.specs.Fraction.{Fraction}
 use Rattle.box_spans.specs.Every.{ranges_of}
 use Rattle.clock_limits.specs.declared.ranges.NodeRanges.{NodeRanges}
@@ -12,26 +12,28 @@ use Rattle.res_model.specs.declared.clock.Facts.{Facts}
 use Rattle.res_model.specs.declared.clock.Range.{Range}
 use Rattle.res_model.specs.declared.table.FlashRange.{FlashRange}
 use Rattle.res_model.specs.declared.table.TableParts.{TableParts}
+use Rattle.res_model.specs.declared.limit.Limit.{Limit}
+use Rattle.res_model.specs.declared.limit.Limit.TheVariants as name
+use Rattle.explain_text.specs.LimitNames.{limit_named}
 use Rattle.explain_text.specs.Names.{hertz_text, range_text}
 
--- what is wrong where the limit of a number, 3 to 17, is not met
-unfoldable pub limit_words : ℕ → List ℕ
-limit_words k =
-    if k == 3 then codes "HSE can not be used"
-    else (if k == 4 then codes "VCO_IN out of range"
-    else (if k == 5 then codes "VCO out of range"
-    else (if k == 6 then codes "SYSCLK too high"
-    else (if k == 7 then codes "HCLK too high for the voltage scale"
-    else (if k == 8 then codes "PCLK1 too high"
-    else (if k == 9 then codes "PCLK2 too high"
-    else (if k == 10 then codes "CLK48 not 48000000"
-    else (if k == 11 then codes "CLK48 too high"
-    else (if k == 12 then codes "HCLK too low for a peripheral"
-    else (if k == 13 then codes "no flash row for HCLK"
-    else (if k == 14 then codes "HCLK not as wished"
-    else (if k == 15 then codes "PCLK1 not as wished"
-    else (if k == 16 then codes "PCLK2 not as wished"
-    else codes "over-drive without the PLL")))))))))))))
+-- what is wrong where a limit is not met
+abbrev pub limit_words : Limit → List ℕ
+limit_words name.Hse = codes "HSE can not be used"
+limit_words name.VcoIn = codes "VCO_IN out of range"
+limit_words name.Vco = codes "VCO out of range"
+limit_words name.Sysclk = codes "SYSCLK too high"
+limit_words name.Hclk = codes "HCLK too high for the voltage scale"
+limit_words name.Pclk1 = codes "PCLK1 too high"
+limit_words name.Pclk2 = codes "PCLK2 too high"
+limit_words name.Exact48 = codes "CLK48 not 48000000"
+limit_words name.Most48 = codes "CLK48 too high"
+limit_words name.Floor = codes "HCLK too low for a peripheral"
+limit_words name.FlashRow = codes "no flash row for HCLK"
+limit_words name.HclkWish = codes "HCLK not as wished"
+limit_words name.Pclk1Wish = codes "PCLK1 not as wished"
+limit_words name.Pclk2Wish = codes "PCLK2 not as wished"
+limit_words name.OverDrive = codes "over-drive without the PLL"
 
 -- ---- forms of figures
 
@@ -105,32 +107,47 @@ flash_from (Some range) vdd hclk = row_figures vdd hclk (last_row range)
 abbrev pub flash_figures : TableParts → ℕ → Fraction → List ℕ
 flash_figures t vdd hclk = flash_from (range_at t vdd) vdd hclk
 
--- ---- the figures of a limit, 3 to 16, where the nodes have these ranges and there are these power steps. Limit 17 has none
+-- ---- the figures of a limit, where the nodes have these ranges and there are these power steps. That of over-drive has none
 
-unfoldable pub figures_by : TableParts → Facts → List ℕ → NodeRanges → ℕ → List ℕ
-figures_by t f steps r k =
-    if k == 3 then hse_figures t f
-    else (if k == 4 then possible_within r.vco_in t.limits.vco_in
-    else (if k == 5 then possible_within r.vco t.limits.vco
-    else (if k == 6 then least_allowed r.sysclk.least (sysclk_most t steps)
-    else (if k == 7 then least_allowed r.hclk.least (scales_most t steps)
-    else (if k == 8 then least_allowed r.pclk1.least (pclk1_most t steps)
-    else (if k == 9 then least_allowed r.pclk2.least (pclk2_most t steps)
-    else (if k == 10 then possible r.clk48
-    else (if k == 11 then least_allowed r.clk48.least mhz_48
-    else (if k == 12 then greatest_needed r.hclk.most f.floor
-    else (if k == 13 then flash_figures t f.vdd r.hclk.least
-    else (if k == 14 then wished r.hclk f.hclk
-    else (if k == 15 then wished r.pclk1 f.pclk1
-    else wished r.pclk2 f.pclk2))))))))))))
+abbrev pub figures_by : TableParts → Facts → List ℕ → NodeRanges → Limit → List ℕ
+figures_by t f steps r name.Hse = hse_figures t f
+figures_by t f steps r name.VcoIn = possible_within r.vco_in t.limits.vco_in
+figures_by t f steps r name.Vco = possible_within r.vco t.limits.vco
+figures_by t f steps r name.Sysclk = least_allowed r.sysclk.least (sysclk_most t steps)
+figures_by t f steps r name.Hclk = least_allowed r.hclk.least (scales_most t steps)
+figures_by t f steps r name.Pclk1 = least_allowed r.pclk1.least (pclk1_most t steps)
+figures_by t f steps r name.Pclk2 = least_allowed r.pclk2.least (pclk2_most t steps)
+figures_by t f steps r name.Exact48 = possible r.clk48
+figures_by t f steps r name.Most48 = least_allowed r.clk48.least mhz_48
+figures_by t f steps r name.Floor = greatest_needed r.hclk.most f.floor
+figures_by t f steps r name.FlashRow = flash_figures t f.vdd r.hclk.least
+figures_by t f steps r name.HclkWish = wished r.hclk f.hclk
+figures_by t f steps r name.Pclk1Wish = wished r.pclk1 f.pclk1
+figures_by t f steps r name.Pclk2Wish = wished r.pclk2 f.pclk2
+figures_by t f steps r name.OverDrive = []
 
 -- the figures of a limit over all values of the clock variables
-unfoldable pub figures : ProblemParts → ℕ → List ℕ
-figures p k = figures_by p.tables p.facts (values_at p.clock 9) (ranges_of p.facts p.clock) k
+unfoldable pub figures : ProblemParts → Limit → List ℕ
+figures p limit = figures_by p.tables p.facts (values_at p.clock 9) (ranges_of p.facts p.clock) limit
 
 -- the figures of a limit that has any, behind its words
-abbrev pub figures_part : ProblemParts → ℕ → List ℕ
-figures_part p k = if k == 17 then [] else codes ", " ++ figures p k
+abbrev pub figures_part : ProblemParts → Limit → List ℕ
+figures_part p name.OverDrive = []
+figures_part p name.Hse = codes ", " ++ figures p name.Hse
+figures_part p name.VcoIn = codes ", " ++ figures p name.VcoIn
+figures_part p name.Vco = codes ", " ++ figures p name.Vco
+figures_part p name.Sysclk = codes ", " ++ figures p name.Sysclk
+figures_part p name.Hclk = codes ", " ++ figures p name.Hclk
+figures_part p name.Pclk1 = codes ", " ++ figures p name.Pclk1
+figures_part p name.Pclk2 = codes ", " ++ figures p name.Pclk2
+figures_part p name.Exact48 = codes ", " ++ figures p name.Exact48
+figures_part p name.Most48 = codes ", " ++ figures p name.Most48
+figures_part p name.Floor = codes ", " ++ figures p name.Floor
+figures_part p name.FlashRow = codes ", " ++ figures p name.FlashRow
+figures_part p name.HclkWish = codes ", " ++ figures p name.HclkWish
+figures_part p name.Pclk1Wish = codes ", " ++ figures p name.Pclk1Wish
+figures_part p name.Pclk2Wish = codes ", " ++ figures p name.Pclk2Wish
 
+-- the line of the limit of a number
 unfoldable pub limit_line : ProblemParts → ℕ → List ℕ
-limit_line p k = codes "limit " ++ decimal k ++ codes ": " ++ limit_words k ++ figures_part p k ++ codes "\n"
+limit_line p k = codes "limit " ++ decimal k ++ codes ": " ++ limit_words (limit_named k) ++ figures_part p (limit_named k) ++ codes "\n"

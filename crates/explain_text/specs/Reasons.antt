@@ -18,6 +18,7 @@ use Rattle.search_api.specs.declared.verdict.Class.TheVariants.{Pins, Exti}
 use Rattle.search_api.specs.declared.verdict.Reason.{Reason}
 use Rattle.search_api.specs.declared.verdict.Reason.TheVariants as reason
 use Rattle.explain_text.specs.Figures.{limit_line, limit_words}
+use Rattle.explain_text.specs.LimitNames.{limit_named}
 use Rattle.explain_text.specs.Joined.{joined}
 use Rattle.explain_text.specs.Names.{pin_name, signal_of, values_of}
 
@@ -65,7 +66,7 @@ is_by_limit k node.Rank = false
 is_by_limit k node.Witness = false
 
 unfoldable pub boxes_line : ℕ → ℕ → List ℕ
-boxes_line k boxes = if boxes == 0 then [] else codes "limit " ++ decimal k ++ codes ": " ++ limit_words k ++ codes ", boxes " ++ decimal boxes ++ codes "\n"
+boxes_line k boxes = if boxes == 0 then [] else codes "limit " ++ decimal k ++ codes ": " ++ limit_words (limit_named k) ++ codes ", boxes " ++ decimal boxes ++ codes "\n"
 
 -- the line of a limit; the first is 3
 unfoldable pub limit_boxes : List Node → ℕ → List ℕ

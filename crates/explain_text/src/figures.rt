@@ -9,7 +9,7 @@ use crate::power::{
 };
 use clock_limits::NodeRanges;
 use res_base::Ratio;
-use res_model::{Facts, Range, TableParts};
+use res_model::{Facts, Limit, Range, TableParts};
 use std::alloc::{AllocError, Global};
 
 /// What the 48 MHz output must be, in hertz.
@@ -151,31 +151,31 @@ fn flash_figures(
 }
 
 /// The figures of a limit, where the nodes have these ranges and there are these power steps.
-#[tactic(auto, unfolding(crate::specs::Figures::figures_by))]
 pub(crate) fn figures_by(
     alloc: Global,
     t: &TableParts,
     f: &Facts,
     steps: &[u16],
     r: &NodeRanges,
-    limit: u8,
+    limit: Limit,
 ) -> Result<String, AllocError>
     ensures { IfOk result (λ x. string_bytes x ≡ figures_by t.now f.now steps.now r.now limit) }
 {
     match limit {
-        3 => hse_figures(alloc, t, f),
-        4 => possible_within(alloc, &r.vco_in, t.limits.vco_in),
-        5 => possible_within(alloc, &r.vco, t.limits.vco),
-        6 => least_allowed(alloc, &r.sysclk.least, sysclk_most(t, steps)),
-        7 => least_allowed(alloc, &r.hclk.least, scales_most(t, steps)),
-        8 => least_allowed(alloc, &r.pclk1.least, pclk1_most(t, steps)),
-        9 => least_allowed(alloc, &r.pclk2.least, pclk2_most(t, steps)),
-        10 => possible(alloc, &r.clk48),
-        11 => least_allowed(alloc, &r.clk48.least, MHZ_48),
-        12 => greatest_needed(alloc, &r.hclk.most, f.floor),
-        13 => flash_figures(alloc, t, f.vdd, &r.hclk.least),
-        14 => wished(alloc, &r.hclk, f.hclk),
-        15 => wished(alloc, &r.pclk1, f.pclk1),
-        _ => wished(alloc, &r.pclk2, f.pclk2),
+        Limit::Hse => hse_figures(alloc, t, f),
+        Limit::VcoIn => possible_within(alloc, &r.vco_in, t.limits.vco_in),
+        Limit::Vco => possible_within(alloc, &r.vco, t.limits.vco),
+        Limit::Sysclk => least_allowed(alloc, &r.sysclk.least, sysclk_most(t, steps)),
+        Limit::Hclk => least_allowed(alloc, &r.hclk.least, scales_most(t, steps)),
+        Limit::Pclk1 => least_allowed(alloc, &r.pclk1.least, pclk1_most(t, steps)),
+        Limit::Pclk2 => least_allowed(alloc, &r.pclk2.least, pclk2_most(t, steps)),
+        Limit::Exact48 => possible(alloc, &r.clk48),
+        Limit::Most48 => least_allowed(alloc, &r.clk48.least, MHZ_48),
+        Limit::Floor => greatest_needed(alloc, &r.hclk.most, f.floor),
+        Limit::FlashRow => flash_figures(alloc, t, f.vdd, &r.hclk.least),
+        Limit::HclkWish => wished(alloc, &r.hclk, f.hclk),
+        Limit::Pclk1Wish => wished(alloc, &r.pclk1, f.pclk1),
+        Limit::Pclk2Wish => wished(alloc, &r.pclk2, f.pclk2),
+        Limit::OverDrive => Ok(String::new(alloc)),
     }
 }

@@ -12,6 +12,6 @@ mod reasons;
 mod rivals;
 
 pub use changes::changes_text;
-pub use laws::all_choices_have_every_value;
+pub use laws::{all_choices_have_every_value, numbers_have_names};
 pub use reasons::why_text;
 pub use rivals::pin_name;

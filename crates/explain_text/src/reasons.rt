@@ -4,7 +4,7 @@ ghost use Rattle.explain_text.specs.Joined.{joined};
 ghost use Rattle.explain_text.specs.Reasons.{boxes_line, is_by_limit, limit_boxes, reason_text, split_text, why};
 
 use crate::hertz::put_number;
-use crate::limits::{limit_line, limit_words};
+use crate::limits::{limit_line, limit_named, limit_words};
 use crate::rivals::hall_text;
 use problem::Problem;
 use refutation::{Node, Proof};
@@ -42,7 +42,7 @@ fn boxes_line(alloc: Global, limit: u8, boxes: u64) -> Result<String, AllocError
     }
     put_number(alloc, &mut line, "limit ", u64::from(limit))?;
     line.push_str(": ")?;
-    line.push_str(limit_words(limit))?;
+    line.push_str(limit_words(limit_named(limit)))?;
     put_number(alloc, &mut line, ", boxes ", boxes)?;
     line.push_str("\n")?;
     Ok(line)

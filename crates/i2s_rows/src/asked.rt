@@ -4,6 +4,7 @@ ghost use Rattle.res_model.specs.Clock.{IsInRange};
 
 use i2s_pll::{I2s, I2sMachine, I2sOp, I2sStep, i2s_answer, i2s_writes};
 use mcu_tables::{TableFault, read_tables};
+use refusal::Refusal;
 use res_model::{ClockChoice, Facts, Src, Tables};
 use std::alloc::Global;
 use std::test::Fail;
@@ -13,7 +14,7 @@ fn table() -> &'static str {
     r#"{"version":1,"names":["STM32F407V(E-G)Tx"],"package":"LQFP100","pins":["PH0-OSC_IN"],"signals":[{"name":"RCC_OSC_IN","use":"osc","at":["PH0-OSC_IN"]}],"hse_in":"RCC_OSC_IN","hse_out":"RCC_OSC_OUT","ips":[],"clock":{"m":[2,63],"n":[50,432],"p":[2,4,6,8],"q":[2,15],"hpre":[1,2],"ppre1":[1,2,4],"ppre2":[1,2],"vos":[1,2]},"limits":{"crystal":[4000000,26000000],"bypass":[1000000,50000000],"vco_in":[1000000,2000000],"vco":[100000000,432000000],"sysclk":168000000,"pclk1":42000000,"pclk2":84000000},"scales":[{"vos":1,"max":168000000},{"vos":2,"max":144000000}],"flash":[{"from":2700,"to":3600,"prefetch":true,"rows":[30000000,60000000,90000000,120000000,150000000,168000000]}],"defaults":{"src":"HSI","psrc":"HSE","hpre":1,"p":2,"m":16,"n":192,"q":4,"ppre1":1,"ppre2":1,"vos":1,"hse":8000000}}"#
 }
 
-fn tables(alloc: Global) -> Result<Tables, TableFault> {
+fn tables(alloc: Global) -> Result<Tables, Refusal<TableFault>> {
     read_tables(alloc, table().as_bytes())
 }
 

@@ -14,9 +14,10 @@ ghost use Rattle.answers.specs.declared.answer.Status.TheVariants as status;
 
 use answers::{Answer, Status, counts, says};
 use box_judge::PinClockJudge;
-use choice_rank::{ShapeFault, least_of};
+use choice_rank::least_of;
 use ioc_write::{BackFault, write_back};
-use problem::{Part, Problem, build};
+use problem::{Part, Problem, build, wide_variable};
+use refusal::Refusal;
 use res_base::{Items, OutOfMemory};
 use res_io::Gate;
 use res_model::{Opts, Project, Tables};
@@ -51,9 +52,13 @@ fn written(alloc: Global, text: &[u8], p: &Problem, at: &[u16]) -> Result<Answer
             status: Status::Done,
             text: Items::of(out),
         }),
-        Err(BackFault::NoNumber) => says(alloc, Status::WriteBackRefused, "ioc: number"),
-        Err(BackFault::LongLine { line }) => too_long(alloc, line),
-        Err(BackFault::Memory) => Err(OutOfMemory),
+        Err(Refusal::Fault(BackFault::NoNumber)) => says(
+            alloc,
+            Status::WriteBackRefused,
+            "ioc: number",
+        ),
+        Err(Refusal::Fault(BackFault::LongLine { line })) => too_long(alloc, line),
+        Err(Refusal::OutOfMemory) => Err(OutOfMemory),
     }
 }
 
@@ -121,7 +126,7 @@ pub fn write_least<R: Threads + Wait + Sync, G: Gate + Sync>(
 {
     match build(alloc, t, p, opts, Part::Whole) {
         Ok(problem) => searched(rt, alloc, text, problem, workers, gate),
-        Err(ShapeFault::TooWide { variable }) => too_wide(alloc, variable),
-        Err(ShapeFault::Memory) => Err(OutOfMemory),
+        Err(Refusal::Fault(fault)) => too_wide(alloc, wide_variable(fault)),
+        Err(Refusal::OutOfMemory) => Err(OutOfMemory),
     }
 }

@@ -8,7 +8,7 @@ use Rattle.std.proofs.lemmas.List.{take-append-drop, take_at, drop_at}
 use Rattle.std.proofs.lemmas.Slice.Eq.{bytes_eq-Decides}
 use Rattle.res_base.proofs.SumLemmas.{bool_cases}
 use Rattle.ioc_text.specs.Lines.{is_clock_key, is_named, is_pin_key, is_single_key, pin_number}
-use Rattle.ioc_lines.specs.Lines.{first_or_later, front_to, is_suffix, last_dot, pin_part, rest_from}
+use Rattle.ioc_lines.specs.Lines.{first_or_later, prefix_to, is_suffix, last_dot, pin_part, rest_from}
 
 -- ---- the last dot
 
@@ -43,7 +43,7 @@ with_dot (b ∷ bs) rest n = rw (with_dot bs rest n) (ap Some (omega arith))
 
 pub part_is : (front rest : List ℕ) → last_dot rest ≡ None → pin_part (front ++ 46 ∷ rest) ≡ front
 unfolding pin_part
-part_is front rest n = ap (front_to (front ++ 46 ∷ rest)) (with_dot front rest n) ∙ take_at front (46 ∷ rest) (length front) refl
+part_is front rest n = ap (prefix_to (front ++ 46 ∷ rest)) (with_dot front rest n) ∙ take_at front (46 ∷ rest) (length front) refl
 
 pub rest_is : (front rest : List ℕ) → last_dot rest ≡ None → rest_from (front ++ 46 ∷ rest) (last_dot (front ++ 46 ∷ rest)) ≡ 46 ∷ rest
 rest_is front rest n = ap (rest_from (front ++ 46 ∷ rest)) (with_dot front rest n) ∙ drop_at front (46 ∷ rest) (length front) refl
@@ -77,7 +77,7 @@ dotted key dot e =
 -- a key without a dot has no pin part
 pub no_part : (key : List ℕ) → last_dot key ≡ None → pin_part key ≡ []
 unfolding pin_part
-no_part key e = ap (front_to key) e
+no_part key e = ap (prefix_to key) e
 
 -- one with a pin part has a dot
 pub dotted_part : (key : List ℕ) (b : ℕ) (bs : List ℕ) → pin_part key ≡ b ∷ bs → IsDotted key

@@ -66,12 +66,12 @@ last_dot [] = None
 last_dot (b ∷ bs) = first_or_later b (last_dot bs)
 
 -- what stands before the last dot of a key; nothing where it has no dot
-abbrev pub front_to : List ℕ → Option ℕ → List ℕ
-front_to bytes None = []
-front_to bytes (Some at) = take at bytes
+abbrev pub prefix_to : List ℕ → Option ℕ → List ℕ
+prefix_to bytes None = []
+prefix_to bytes (Some at) = take at bytes
 
 unfoldable pub pin_part : List ℕ → List ℕ
-pin_part key = front_to key (last_dot key)
+pin_part key = prefix_to key (last_dot key)
 
 -- what stands from the last dot of a key on
 abbrev pub rest_from : List ℕ → Option ℕ → List ℕ

@@ -11,13 +11,14 @@ use Rattle.res_base.proofs.ListLemmas.{each_push}
 use Rattle.res_base.proofs.SumLemmas.{bool_cases}
 use Rattle.ioc_text.specs.Lines.{line_at}
 use Rattle.res_model.specs.Numbers.{number_of, number_up_to}
-use Rattle.ioc_project.specs.ProjectFaults.{Gives}
+use Rattle.refusal.specs.Refusals.{Gives}
 use Rattle.ioc_project.specs.Read.{IsRead}
 use Rattle.res_model.specs.Placed.{is_held, rows_named, rows_placed, HasRowAt, IsPlaced}
 use Rattle.res_model.specs.Signals.{signal_named}
 use Rattle.ioc_project.specs.Project.{place_of, place_for, known_pin, free_place, is_taken, known_signal, signal_given, name_given, is_misplaced, candidate, signal_of, with_pin, is_virtual, signals_after, known_need, need_of, needs_from, few, hertz_of, value_or, well_formed, hse_of, homes_of, in_domains, domain_tests, all_within, fixes_clock, fixes_signals, part_of, kept_of, pin_lines, marks_of, pin_line_at, truth_of, pull_of, speed_of, project_of, capped}
 use Rattle.res_model.specs.Steps.{◌>>=◌}
 use Rattle.res_model.specs.declared.opts.Opts.{Opts}
+use Rattle.refusal.specs.declared.refusal.Refusal.{Refusal}
 use Rattle.ioc_project.specs.declared.fault.ProjectFault.{ProjectFault}
 use Rattle.ioc_project.specs.declared.fault.ProjectFault.TheVariants.{BadValue, NotCandidate, UnknownNeed, TooMany}
 use Rattle.ioc_text.specs.declared.line.Line.{Line}
@@ -237,7 +238,7 @@ read_keeps t ioc opts clocks p e =
     }
 
 -- the same of what a reader answers
-pub answer_keeps : (t : TableParts) (ioc : List Line) (opts : Opts) (clocks : Bool) (answer : Result Project ProjectFault)
+pub answer_keeps : (t : TableParts) (ioc : List Line) (opts : Opts) (clocks : Bool) (answer : Result Project (Refusal ProjectFault))
     → Gives (λ p. p) answer (project_of t ioc opts clocks) → IfOk answer (λ p. IsRead t opts clocks p)
 answer_keeps t ioc opts clocks (Ok p) g = read_keeps t ioc opts clocks p g
 answer_keeps t ioc opts clocks (Err fault) g = tt

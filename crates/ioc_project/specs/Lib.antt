@@ -1,7 +1,6 @@
 pub use Rattle.res_model.specs.Placed
 pub mod Laws
 pub mod Project
-pub mod ProjectFaults
 pub mod Read
 pub mod Tests
 pub mod Views

@@ -1,10 +1,11 @@
 //! Whether fixed homes of the clock variables are values that the table allows.
 ghost use Rattle.std.specs.Prelude.{◌≡◌, ◌<◌, length};
 ghost use Rattle.ioc_project.specs.Project.{is_among, is_within, domain_tests, all_within, in_domains, fixes_clock, fixes_signals};
-ghost use Rattle.ioc_project.specs.ProjectFaults.{Tells};
+ghost use Rattle.refusal.specs.Refusals.{Tells};
 ghost use Rattle.ioc_project.specs.Tests.{passes};
 
 use crate::fault::ProjectFault;
+use refusal::Refusal;
 use res_model::{Domains, Free, Home, TableParts};
 
 pub(crate) fn fixes_clock(free: Free) -> bool
@@ -56,12 +57,12 @@ fn is_in_domain(d: &Domains, place: usize, value: u64) -> bool
     }
 }
 
-fn all_within(d: &Domains, homes: &[Home; 10]) -> Result<(), ProjectFault>
+fn all_within(d: &Domains, homes: &[Home; 10]) -> Result<(), Refusal<ProjectFault>>
     ensures { Tells (λ unit. unit) result (all_within (domain_tests d.now) homes.now) }
 {
     for (place, home) in homes.iter().enumerate() {
         if !is_in_domain(d, place, home.value) {
-            return Err(ProjectFault::OutOfTable { line: home.line });
+            return Err(Refusal::Fault(ProjectFault::OutOfTable { line: home.line }));
         }
     }
     Ok(())
@@ -73,7 +74,7 @@ pub(crate) fn in_domains(
     t: &TableParts,
     fixed: bool,
     homes: &[Home; 10],
-) -> Result<(), ProjectFault>
+) -> Result<(), Refusal<ProjectFault>>
     ensures { Tells (λ unit. unit) result (in_domains t.now fixed homes.now) }
 {
     if !fixed {

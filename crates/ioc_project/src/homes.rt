@@ -2,22 +2,25 @@
 ghost use Rattle.std.specs.Prelude.{◌≡◌, ◌<◌, [], codes};
 ghost use Rattle.ioc_text.specs.Lines.{line_at};
 ghost use Rattle.ioc_project.specs.Project.{number_after, default_home, home_of, m_home, n_home, q_home, p_home, src_home, psrc_home, hpre_home, ppre1_home, ppre2_home, hse_of, homes_of};
-ghost use Rattle.ioc_project.specs.ProjectFaults.{Tells};
+ghost use Rattle.refusal.specs.Refusals.{Tells};
 
 use crate::fault::ProjectFault;
 use crate::values::{hertz_of, number_after, pll_source_of, system_source_of};
 use ioc_text::{Ioc, Line};
+use refusal::Refusal;
 use res_model::{Home, TableParts};
 
 /// The frequency of the HSE in hertz.
 #[tactic(auto, unfolding(crate::specs::Project::hse_of))]
-pub(crate) fn hse_of(t: &TableParts, ioc: &Ioc) -> Result<u64, ProjectFault>
+pub(crate) fn hse_of(t: &TableParts, ioc: &Ioc) -> Result<u64, Refusal<ProjectFault>>
     ensures { Tells (λ hertz. hertz) result (hse_of t.now ioc.now) }
 {
     let Some(line) = ioc.get(b"RCC.HSE_VALUE") else {
         return Ok(t.hse_hz);
     };
-    hertz_of(line.value.as_slice()).ok_or(ProjectFault::BadValue { line: line.number })
+    hertz_of(line.value.as_slice()).ok_or(Refusal::Fault(ProjectFault::BadValue {
+        line: line.number,
+    }))
 }
 
 fn default_home(t: &TableParts, place: usize) -> Home
@@ -37,7 +40,7 @@ fn number_home(
     ioc: &Ioc,
     key: &[u8],
     beginning: &[u8],
-) -> Result<Home, ProjectFault>
+) -> Result<Home, Refusal<ProjectFault>>
     requires { place < 10 }
     ensures { Tells (λ home. home) result (home_of t.now place (number_after beginning.now) (line_at ioc.now key.now)) }
 {
@@ -45,7 +48,7 @@ fn number_home(
         return Ok(default_home(t, place));
     };
     match number_after(beginning, line.value.as_slice()) {
-        None => Err(ProjectFault::BadValue { line: line.number }),
+        None => Err(Refusal::Fault(ProjectFault::BadValue { line: line.number })),
         Some(value) => Ok(Home {
             value,
             line: line.number,
@@ -54,42 +57,42 @@ fn number_home(
 }
 
 #[tactic(auto, unfolding(crate::specs::Project::m_home))]
-fn m_home(t: &TableParts, ioc: &Ioc) -> Result<Home, ProjectFault>
+fn m_home(t: &TableParts, ioc: &Ioc) -> Result<Home, Refusal<ProjectFault>>
     ensures { Tells (λ home. home) result (m_home t.now ioc.now) }
 {
     number_home(t, 4, ioc, b"RCC.PLLM", b"")
 }
 
 #[tactic(auto, unfolding(crate::specs::Project::n_home))]
-fn n_home(t: &TableParts, ioc: &Ioc) -> Result<Home, ProjectFault>
+fn n_home(t: &TableParts, ioc: &Ioc) -> Result<Home, Refusal<ProjectFault>>
     ensures { Tells (λ home. home) result (n_home t.now ioc.now) }
 {
     number_home(t, 5, ioc, b"RCC.PLLN", b"")
 }
 
 #[tactic(auto, unfolding(crate::specs::Project::q_home))]
-fn q_home(t: &TableParts, ioc: &Ioc) -> Result<Home, ProjectFault>
+fn q_home(t: &TableParts, ioc: &Ioc) -> Result<Home, Refusal<ProjectFault>>
     ensures { Tells (λ home. home) result (q_home t.now ioc.now) }
 {
     number_home(t, 6, ioc, b"RCC.PLLQ", b"")
 }
 
 #[tactic(auto, unfolding(crate::specs::Project::p_home))]
-fn p_home(t: &TableParts, ioc: &Ioc) -> Result<Home, ProjectFault>
+fn p_home(t: &TableParts, ioc: &Ioc) -> Result<Home, Refusal<ProjectFault>>
     ensures { Tells (λ home. home) result (p_home t.now ioc.now) }
 {
     number_home(t, 3, ioc, b"RCC.PLLP", b"RCC_PLLP_DIV")
 }
 
 #[tactic(auto, unfolding(crate::specs::Project::src_home))]
-fn src_home(t: &TableParts, ioc: &Ioc) -> Result<Home, ProjectFault>
+fn src_home(t: &TableParts, ioc: &Ioc) -> Result<Home, Refusal<ProjectFault>>
     ensures { Tells (λ home. home) result (src_home t.now ioc.now) }
 {
     let Some(line) = ioc.get(b"RCC.SYSCLKSource") else {
         return Ok(default_home(t, 0));
     };
     match system_source_of(line.value.as_slice()) {
-        None => Err(ProjectFault::BadValue { line: line.number }),
+        None => Err(Refusal::Fault(ProjectFault::BadValue { line: line.number })),
         Some(value) => Ok(Home {
             value,
             line: line.number,
@@ -98,14 +101,14 @@ fn src_home(t: &TableParts, ioc: &Ioc) -> Result<Home, ProjectFault>
 }
 
 #[tactic(auto, unfolding(crate::specs::Project::psrc_home))]
-fn psrc_home(t: &TableParts, ioc: &Ioc) -> Result<Home, ProjectFault>
+fn psrc_home(t: &TableParts, ioc: &Ioc) -> Result<Home, Refusal<ProjectFault>>
     ensures { Tells (λ home. home) result (psrc_home t.now ioc.now) }
 {
     let Some(line) = ioc.get(b"RCC.PLLSourceVirtual") else {
         return Ok(default_home(t, 1));
     };
     match pll_source_of(line.value.as_slice()) {
-        None => Err(ProjectFault::BadValue { line: line.number }),
+        None => Err(Refusal::Fault(ProjectFault::BadValue { line: line.number })),
         Some(value) => Ok(Home {
             value,
             line: line.number,
@@ -114,21 +117,21 @@ fn psrc_home(t: &TableParts, ioc: &Ioc) -> Result<Home, ProjectFault>
 }
 
 #[tactic(auto, unfolding(crate::specs::Project::hpre_home))]
-fn hpre_home(t: &TableParts, ioc: &Ioc) -> Result<Home, ProjectFault>
+fn hpre_home(t: &TableParts, ioc: &Ioc) -> Result<Home, Refusal<ProjectFault>>
     ensures { Tells (λ home. home) result (hpre_home t.now ioc.now) }
 {
     number_home(t, 2, ioc, b"RCC.AHBCLKDivider", b"RCC_SYSCLK_DIV")
 }
 
 #[tactic(auto, unfolding(crate::specs::Project::ppre1_home))]
-fn ppre1_home(t: &TableParts, ioc: &Ioc) -> Result<Home, ProjectFault>
+fn ppre1_home(t: &TableParts, ioc: &Ioc) -> Result<Home, Refusal<ProjectFault>>
     ensures { Tells (λ home. home) result (ppre1_home t.now ioc.now) }
 {
     number_home(t, 7, ioc, b"RCC.APB1CLKDivider", b"RCC_HCLK_DIV")
 }
 
 #[tactic(auto, unfolding(crate::specs::Project::ppre2_home))]
-fn ppre2_home(t: &TableParts, ioc: &Ioc) -> Result<Home, ProjectFault>
+fn ppre2_home(t: &TableParts, ioc: &Ioc) -> Result<Home, Refusal<ProjectFault>>
     ensures { Tells (λ home. home) result (ppre2_home t.now ioc.now) }
 {
     number_home(t, 8, ioc, b"RCC.APB2CLKDivider", b"RCC_HCLK_DIV")
@@ -136,7 +139,7 @@ fn ppre2_home(t: &TableParts, ioc: &Ioc) -> Result<Home, ProjectFault>
 
 /// The homes of src, psrc, hpre, p, m, n, q, ppre1, ppre2 and vos.
 #[tactic(auto, unfolding(crate::specs::Project::homes_of))]
-pub(crate) fn homes_of(t: &TableParts, ioc: &Ioc) -> Result<[Home; 10], ProjectFault>
+pub(crate) fn homes_of(t: &TableParts, ioc: &Ioc) -> Result<[Home; 10], Refusal<ProjectFault>>
     ensures { Tells (λ homes. homes) result (homes_of t.now ioc.now) }
 {
     let m = m_home(t, ioc)?;

@@ -1,10 +1,11 @@
 //! The needs, which stand behind the signals.
 ghost use Rattle.std.specs.Prelude.{◌≡◌, ◌≤◌, ◌+◌, length, IfOk};
 ghost use Rattle.ioc_project.specs.Project.{capped, need_of, known_need, needs_from, few};
-ghost use Rattle.ioc_project.specs.ProjectFaults.{Gives, Tells};
+ghost use Rattle.refusal.specs.Refusals.{Gives, Tells};
 ghost use Rattle.res_model.specs.Steps.{with_front};
 
 use crate::fault::ProjectFault;
+use refusal::Refusal;
 use res_base::Text;
 use res_model::{Pull, Signal, Speed, Tables};
 use std::alloc::Global;
@@ -25,15 +26,20 @@ fn capped(number: usize) -> u32
 
 /// The need of this number and name.
 #[tactic(auto, unfolding(crate::specs::Project::need_of))]
-fn need_of(alloc: Global, t: &Tables, number: usize, name: &Text) -> Result<Signal, ProjectFault>
+fn need_of(
+    alloc: Global,
+    t: &Tables,
+    number: usize,
+    name: &Text,
+) -> Result<Signal, Refusal<ProjectFault>>
     ensures { Gives (λ need. need) result (need_of t.now number name.now) }
 {
     let need = capped(number);
     let Some(signal) = t.signal_named(name.as_str().as_bytes()) else {
-        return Err(ProjectFault::UnknownNeed { need });
+        return Err(Refusal::Fault(ProjectFault::UnknownNeed { need }));
     };
     if signal.at.len() == 0 {
-        return Err(ProjectFault::UnknownNeed { need });
+        return Err(Refusal::Fault(ProjectFault::UnknownNeed { need }));
     }
     Ok(Signal {
         name: Text::copy(alloc, signal.name.as_str())?,
@@ -51,7 +57,7 @@ pub(crate) fn push_needs(
     t: &Tables,
     signals: &mut Vec<Signal>,
     names: &[Text],
-) -> Result<(), ProjectFault>
+) -> Result<(), Refusal<ProjectFault>>
     ensures { Gives (λ _. signals.new.items) result (with_front signals.old.items (needs_from t.now 1 names.now)) }
 {
     for (at, name) in names.iter().enumerate() {
@@ -63,13 +69,13 @@ pub(crate) fn push_needs(
 
 /// Whether signals and needs are few enough.
 #[tactic(auto, unfolding(crate::specs::Project::few))]
-pub(crate) fn few(signals: &[Signal]) -> Result<(), ProjectFault>
+pub(crate) fn few(signals: &[Signal]) -> Result<(), Refusal<ProjectFault>>
     ensures { Tells (λ _. signals.now) result (few signals.now) }
 {
     if signals.len() > MOST {
-        return Err(ProjectFault::TooMany {
+        return Err(Refusal::Fault(ProjectFault::TooMany {
             count: capped(signals.len()),
-        });
+        }));
     }
     Ok(())
 }

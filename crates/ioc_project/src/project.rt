@@ -2,7 +2,7 @@
 ghost use Rattle.std.specs.Prelude.{IfOk};
 ghost use Rattle.ioc_project.specs.Read.{IsRead};
 ghost use Rattle.ioc_project.specs.Project.{project_of};
-ghost use Rattle.ioc_project.specs.ProjectFaults.{Gives};
+ghost use Rattle.refusal.specs.Refusals.{Gives};
 
 use crate::domains::{fixes_clock, fixes_signals, in_domains};
 use crate::fault::ProjectFault;
@@ -13,6 +13,7 @@ use crate::part::{kept_of, part_of};
 use crate::pins::pin_lines;
 use crate::signals::push_signals;
 use ioc_text::Ioc;
+use refusal::Refusal;
 use res_base::Items;
 use res_model::{Opts, Project, Tables};
 use std::alloc::Global;
@@ -26,7 +27,7 @@ pub fn read_project(
     ioc: &Ioc,
     opts: &Opts,
     clocks: bool,
-) -> Result<Project, ProjectFault>
+) -> Result<Project, Refusal<ProjectFault>>
     ensures project { Gives (λ project. project) result (project_of t.now ioc.now opts.now clocks) }
     ensures keeps { IfOk result (IsRead t.now opts.now clocks) }
 {
@@ -41,7 +42,7 @@ fn project_under(
     ioc: &Ioc,
     opts: &Opts,
     clocks: bool,
-) -> Result<Project, ProjectFault>
+) -> Result<Project, Refusal<ProjectFault>>
     ensures { Gives (λ project. project) result (project_of t.now ioc.now opts.now clocks) }
 {
     let parts = t.parts();

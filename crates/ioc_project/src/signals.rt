@@ -3,7 +3,7 @@ ghost use Rattle.std.specs.Prelude.{◌≡◌, ◌==◌, ◌++◌, false, codes,
 ghost use Rattle.std.specs.List.{list_any, starts_with};
 ghost use Rattle.ioc_text.specs.Lines.{line_at};
 ghost use Rattle.ioc_project.specs.Project.{truth_of, pull_of, speed_of, value_or, is_virtual, pin_line_at, is_some_of, is_taken, place_for, signal_given, name_given, is_misplaced, candidate, signal_of, with_pin, signals_after};
-ghost use Rattle.ioc_project.specs.ProjectFaults.{Gives, Tells};
+ghost use Rattle.refusal.specs.Refusals.{Gives, Tells};
 ghost use Rattle.res_model.specs.declared.project.Pull.TheVariants.{None as NoPull};
 ghost use Rattle.res_model.specs.declared.project.Speed.TheVariants.{Low};
 ghost use Rattle.ioc_project.specs.Views.{seen_signal};
@@ -11,6 +11,7 @@ ghost use Rattle.ioc_project.specs.Views.{seen_signal};
 use crate::fault::ProjectFault;
 use crate::values::{pull_of, speed_of, truth_at};
 use ioc_text::{Ioc, Line};
+use refusal::Refusal;
 use res_base::{OutOfMemory, Text};
 use res_model::{PinUse, Pull, Signal, Speed, TableSignal, Tables};
 use std::alloc::Global;
@@ -50,14 +51,14 @@ fn is_taken(signals: &[Signal], place: u8) -> bool
 
 /// The place of a pin's line, where none of the signals before is.
 #[tactic(auto, unfolding(crate::specs::Project::place_for, crate::specs::Project::place_of, res_model::specs::PinNames::place))]
-fn place_for(t: &Tables, before: &[Signal], line: &Line) -> Result<u8, ProjectFault>
+fn place_for(t: &Tables, before: &[Signal], line: &Line) -> Result<u8, Refusal<ProjectFault>>
     ensures { Tells (λ place. place) result (place_for t.now before.now line.now) }
 {
     let Some(place) = t.pin_of(line.value.as_slice()) else {
-        return Err(ProjectFault::UnknownPin { line: line.number });
+        return Err(Refusal::Fault(ProjectFault::UnknownPin { line: line.number }));
     };
     if is_taken(before, place) {
-        return Err(ProjectFault::BadValue { line: line.number });
+        return Err(Refusal::Fault(ProjectFault::BadValue { line: line.number }));
     }
     Ok(place)
 }
@@ -68,7 +69,7 @@ fn signal_given<'t>(
     t: &'t Tables,
     ioc: &Ioc,
     pin: &[u8],
-) -> Result<Option<(u32, &'t TableSignal)>, ProjectFault>
+) -> Result<Option<(u32, &'t TableSignal)>, Refusal<ProjectFault>>
     ensures { Gives seen_signal result (signal_given t.now (pin_line_at ioc.now pin.now (codes ".Signal"))) }
 {
     let key = pin_key(alloc, pin, b".Signal")?;
@@ -76,7 +77,7 @@ fn signal_given<'t>(
         return Ok(None);
     };
     match t.signal_named(line.value.as_slice()) {
-        None => Err(ProjectFault::UnknownSignal { line: line.number }),
+        None => Err(Refusal::Fault(ProjectFault::UnknownSignal { line: line.number })),
         Some(signal) => Ok(Some((line.number, signal))),
     }
 }
@@ -90,31 +91,35 @@ fn name_given<'t>(given: Option<(u32, &'t TableSignal)>) -> &'t str
     }
 }
 
-fn is_locked(alloc: Global, ioc: &Ioc, pin: &[u8]) -> Result<bool, ProjectFault>
+fn is_locked(alloc: Global, ioc: &Ioc, pin: &[u8]) -> Result<bool, Refusal<ProjectFault>>
     ensures { Gives (λ locked. locked) result (value_or false truth_of (pin_line_at ioc.now pin.now (codes ".Locked"))) }
 {
     let key = pin_key(alloc, pin, b".Locked")?;
     truth_at(ioc, key.as_slice())
 }
 
-fn pull_given(alloc: Global, ioc: &Ioc, pin: &[u8]) -> Result<Pull, ProjectFault>
+fn pull_given(alloc: Global, ioc: &Ioc, pin: &[u8]) -> Result<Pull, Refusal<ProjectFault>>
     ensures { Gives (λ pull. pull) result (value_or NoPull pull_of (pin_line_at ioc.now pin.now (codes ".GPIO_PuPd"))) }
 {
     let key = pin_key(alloc, pin, b".GPIO_PuPd")?;
     let Some(line) = ioc.get(key.as_slice()) else {
         return Ok(Pull::None);
     };
-    pull_of(line.value.as_slice()).ok_or(ProjectFault::BadValue { line: line.number })
+    pull_of(line.value.as_slice()).ok_or(Refusal::Fault(ProjectFault::BadValue {
+        line: line.number,
+    }))
 }
 
-fn speed_given(alloc: Global, ioc: &Ioc, pin: &[u8]) -> Result<Speed, ProjectFault>
+fn speed_given(alloc: Global, ioc: &Ioc, pin: &[u8]) -> Result<Speed, Refusal<ProjectFault>>
     ensures { Gives (λ speed. speed) result (value_or Low speed_of (pin_line_at ioc.now pin.now (codes ".GPIO_Speed"))) }
 {
     let key = pin_key(alloc, pin, b".GPIO_Speed")?;
     let Some(line) = ioc.get(key.as_slice()) else {
         return Ok(Speed::Low);
     };
-    speed_of(line.value.as_slice()).ok_or(ProjectFault::BadValue { line: line.number })
+    speed_of(line.value.as_slice()).ok_or(Refusal::Fault(ProjectFault::BadValue {
+        line: line.number,
+    }))
 }
 
 fn has_row_at(rows: &[PinUse], place: u8) -> bool
@@ -136,14 +141,14 @@ fn candidate(
     locked: bool,
     place: u8,
     given: Option<(u32, &TableSignal)>,
-) -> Result<(), ProjectFault>
+) -> Result<(), Refusal<ProjectFault>>
     ensures { Tells (λ unit. unit) result (candidate locked place (seen_signal given.entry)) }
 {
     let Some((line, signal)) = given else {
         return Ok(());
     };
     if locked && is_misplaced(signal, place) {
-        return Err(ProjectFault::NotCandidate { line });
+        return Err(Refusal::Fault(ProjectFault::NotCandidate { line }));
     }
     Ok(())
 }
@@ -157,7 +162,7 @@ fn signal_of(
     kept: bool,
     before: &[Signal],
     line: &Line,
-) -> Result<Signal, ProjectFault>
+) -> Result<Signal, Refusal<ProjectFault>>
     ensures { Gives (λ signal. signal) result (signal_of t.now ioc.now kept before.now line.now) }
 {
     let pin = line.value.as_slice();
@@ -186,7 +191,7 @@ fn push_signal(
     kept: bool,
     signals: &mut Vec<Signal>,
     line: &Line,
-) -> Result<(), ProjectFault>
+) -> Result<(), Refusal<ProjectFault>>
     ensures { Gives (λ _. signals.new.items) result (with_pin t.now ioc.now kept signals.old.items line.now) }
 {
     if is_virtual(line.value.as_slice()) {
@@ -205,7 +210,7 @@ pub(crate) fn push_signals(
     kept: bool,
     signals: &mut Vec<Signal>,
     pins: &[&Line],
-) -> Result<(), ProjectFault>
+) -> Result<(), Refusal<ProjectFault>>
     ensures { Gives (λ _. signals.new.items) result (signals_after t.now ioc.now kept signals.old.items (map (λ line. line.now) pins.now)) }
 {
     for line in pins {

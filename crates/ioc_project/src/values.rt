@@ -3,10 +3,11 @@ ghost use Rattle.std.specs.Prelude.{◌≡◌, false};
 ghost use Rattle.ioc_text.specs.Lines.{line_at};
 ghost use Rattle.res_model.specs.Numbers.{number_of, number_up_to};
 ghost use Rattle.ioc_project.specs.Project.{truth_of, pull_of, speed_of, hertz_of, number_after, system_source_of, pll_source_of, value_or};
-ghost use Rattle.ioc_project.specs.ProjectFaults.{Tells};
+ghost use Rattle.refusal.specs.Refusals.{Tells};
 
 use crate::fault::ProjectFault;
 use ioc_text::Ioc;
+use refusal::Refusal;
 use res_base::parse_dec;
 use res_model::{Pull, Speed};
 
@@ -116,11 +117,13 @@ pub(crate) fn pll_source_of(value: &[u8]) -> Option<u64>
 }
 
 /// Whether a key's value is `true`, where an absent key means `false`.
-pub(crate) fn truth_at(ioc: &Ioc, key: &[u8]) -> Result<bool, ProjectFault>
+pub(crate) fn truth_at(ioc: &Ioc, key: &[u8]) -> Result<bool, Refusal<ProjectFault>>
     ensures { Tells (λ truth. truth) result (value_or false truth_of (line_at ioc.now key.now)) }
 {
     let Some(line) = ioc.get(key) else {
         return Ok(false);
     };
-    truth_of(line.value.as_slice()).ok_or(ProjectFault::BadValue { line: line.number })
+    truth_of(line.value.as_slice()).ok_or(Refusal::Fault(ProjectFault::BadValue {
+        line: line.number,
+    }))
 }

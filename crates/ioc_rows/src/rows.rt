@@ -11,6 +11,7 @@ use ioc_text::{Ioc, read_ioc};
 use ioc_write::{BackFault, write_back};
 use mcu_tables::{Tables, read_tables};
 use problem::{Part, Problem, build};
+use refusal::Refusal;
 use res_base::{Items, OutOfMemory, Text};
 use res_model::{Free, Opts, Project};
 use serial_search::search;
@@ -51,7 +52,7 @@ fn ioc(alloc: Global, text: &str) -> Option<Ioc> {
 }
 
 /// The problem of a project that was read, or why there is none.
-fn built(alloc: Global, t: Tables, p: Project, opts: &Opts) -> Result<Problem, ShapeFault>
+fn built(alloc: Global, t: Tables, p: Project, opts: &Opts) -> Result<Problem, Refusal<ShapeFault>>
     requires read { IsRead t opts.now true p }
     requires hertz { p.hse_hz < 2 ^ 32 }
 {
@@ -94,12 +95,17 @@ fn choice(alloc: Global, p: &Problem, rank: u64) -> Result<Vec<u16>, OutOfMemory
 }
 
 /// A project with the choice of a rank.
-fn with_rank(alloc: Global, text: &str, p: &Problem, rank: u64) -> Result<Vec<u8>, BackFault>
+fn with_rank(
+    alloc: Global,
+    text: &str,
+    p: &Problem,
+    rank: u64,
+) -> Result<Vec<u8>, Refusal<BackFault>>
     requires { p.now.first ≢ 0 }
 {
     let at = choice(alloc, p, rank)?;
     if text.as_bytes().len() > 100_000 {
-        return Err(BackFault::Memory);
+        return Err(Refusal::OutOfMemory);
     }
     write_back(alloc, text.as_bytes(), p, at.as_slice())
 }
@@ -117,7 +123,11 @@ fn least(alloc: Global, judge: &PinClockJudge) -> Option<u64> {
 }
 
 /// A project with its least choice.
-fn with_least(alloc: Global, text: &str, p: Problem) -> Option<Result<Vec<u8>, BackFault>> {
+fn with_least(
+    alloc: Global,
+    text: &str,
+    p: Problem,
+) -> Option<Result<Vec<u8>, Refusal<BackFault>>> {
     let judge = judge(alloc, p)?;
     let rank = least(alloc, &judge)?;
     if judge.problem().parts().first == 0 {
@@ -131,7 +141,7 @@ fn written(
     text: &str,
     names: &[&str],
     hclk: Option<u64>,
-) -> Option<Result<Vec<u8>, BackFault>> {
+) -> Option<Result<Vec<u8>, Refusal<BackFault>>> {
     with_least(alloc, text, problem(alloc, text, names, hclk)?)
 }
 
@@ -147,7 +157,7 @@ fn gives_at(alloc: Global, text: &str, names: &[&str], hclk: Option<u64>, expect
 fn is_numbered(alloc: Global, text: &str, names: &[&str], expected: bool) -> bool {
     match written(alloc, text, names, None) {
         Some(Ok(_)) => expected,
-        Some(Err(BackFault::NoNumber)) => !expected,
+        Some(Err(Refusal::Fault(BackFault::NoNumber))) => !expected,
         _ => false,
     }
 }
@@ -156,7 +166,7 @@ fn is_numbered(alloc: Global, text: &str, names: &[&str], expected: bool) -> boo
 fn long_line_is(alloc: Global, text: &str, expected: u32) -> bool {
     match written(alloc, text, &["S1"], None) {
         Some(Ok(_)) => expected == 0,
-        Some(Err(BackFault::LongLine { line })) => line == expected,
+        Some(Err(Refusal::Fault(BackFault::LongLine { line }))) => line == expected,
         _ => false,
     }
 }

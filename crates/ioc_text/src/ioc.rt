@@ -6,6 +6,7 @@ use crate::fault::IocFault;
 use crate::line::Line;
 use crate::marks::{Mark, first_repeat, line_of, sorted_marks};
 use crate::outs::{kept, unless_out, with_out};
+use refusal::Refusal;
 use res_base::OutOfMemory;
 use std::alloc::{AllocError, Global};
 use std::marker::Model;
@@ -42,21 +43,21 @@ impl Model for Ioc {
 }
 
 impl Ioc {
-    ghost use Rattle.ioc_text.specs.IocFaults.{Gives};
+    ghost use Rattle.refusal.specs.Refusals.{Gives};
     ghost use Rattle.ioc_text.specs.Lines.{line_at};
     ghost use Rattle.ioc_text.specs.Index.{each_once};
     ghost use Rattle.ioc_text.specs.Without.{without};
 
     /// These lines, unless a key stands twice.
-    pub(crate) fn of(alloc: Global, lines: Vec<Line>) -> Result<Ioc, IocFault>
+    pub(crate) fn of(alloc: Global, lines: Vec<Line>) -> Result<Ioc, Refusal<IocFault>>
         ensures { Gives (λ ioc. ioc) result (each_once lines.items) }
     {
         let marks = sorted_marks(alloc, lines.as_slice())?;
         let first = first_repeat(lines.as_slice(), marks.as_slice());
         if first < lines.len() {
-            return Err(IocFault::TwiceKey {
+            return Err(Refusal::Fault(IocFault::TwiceKey {
                 line: lines[first].number,
-            });
+            }));
         }
         let read = Rc::new(alloc, Read { lines, marks })?;
         let outs = Vec::new(alloc);

@@ -1,6 +1,6 @@
 //! The lines that have a named key, or the first that is faulty.
 ghost use Rattle.std.specs.Prelude.{◌≡◌, ◌+◌, ◌<◌, ◌^◌, [], ◌∷◌, Some, length};
-ghost use Rattle.ioc_text.specs.IocFaults.{Gives};
+ghost use Rattle.refusal.specs.Refusals.{Gives};
 ghost use Rattle.ioc_text.specs.Lines.{equals_at, is_quiet, divided, with_key, with_value, undone, line_of, ioc_of};
 ghost use Rattle.ioc_text.specs.Index.{first_fault};
 
@@ -10,6 +10,7 @@ use crate::ioc::Ioc;
 use crate::keys::is_named;
 use crate::line::Line;
 use crate::lines::first_line;
+use refusal::Refusal;
 use res_base::Items;
 use std::alloc::Global;
 
@@ -19,12 +20,12 @@ fn with_value(
     number: u32,
     key: &[u8],
     bytes: &[u8],
-) -> Result<Option<Line>, IocFault>
+) -> Result<Option<Line>, Refusal<IocFault>>
     ensures { Gives (λ line. line) result (with_value number key.now (undone bytes.now)) }
 {
     let mut value = Vec::with_capacity(alloc, bytes.len())?;
     if !undo_into(&mut value, bytes)? {
-        return Err(IocFault::BadEscape { line: number });
+        return Err(Refusal::Fault(IocFault::BadEscape { line: number }));
     }
     Ok(Some(Line {
         number,
@@ -40,7 +41,7 @@ fn with_key(
     number: u32,
     key: &[u8],
     value: &[u8],
-) -> Result<Option<Line>, IocFault>
+) -> Result<Option<Line>, Refusal<IocFault>>
     ensures { Gives (λ line. line) result (with_key number (undone key.now) value.now) }
 {
     if !undo_into(scratch, key)? {
@@ -69,34 +70,34 @@ fn line_of(
     scratch: &mut Vec<u8>,
     number: u32,
     bytes: &[u8],
-) -> Result<Option<Line>, IocFault>
+) -> Result<Option<Line>, Refusal<IocFault>>
     ensures { Gives (λ line. line) result (line_of number bytes.now) }
 {
     if bytes.len() > 65535 {
-        return Err(IocFault::LongLine { line: number });
+        return Err(Refusal::Fault(IocFault::LongLine { line: number }));
     }
     if is_quiet(bytes) {
         return Ok(None);
     }
     match equals_at(bytes) {
-        None => Err(IocFault::NoEquals { line: number }),
+        None => Err(Refusal::Fault(IocFault::NoEquals { line: number })),
         Some(at) => with_key(alloc, scratch, number, &bytes[..at], &bytes[at + 1..]),
     }
 }
 
 /// The fault of the first faulty line: that of the first repeated key in the lines before, or else this one.
-fn refused(alloc: Global, lines: Vec<Line>, fault: IocFault) -> Result<Ioc, IocFault>
+fn refused(alloc: Global, lines: Vec<Line>, fault: IocFault) -> Result<Ioc, Refusal<IocFault>>
     ensures { Gives (λ ioc. ioc) result (first_fault lines.items fault) }
 {
     Ioc::of(alloc, lines)?;
-    Err(fault)
+    Err(Refusal::Fault(fault))
 }
 
 /// Reads the lines of a project's text that have a named key, or the fault of its first faulty line.
 ///
 /// Reading stops at a line with a fault of its own. Whether a key stands twice is asked once, of all lines up to there.
 #[tactic(auto, unfolding(crate::specs::Lines::ioc_of, crate::specs::Lines::with_line))]
-pub fn read_ioc(alloc: Global, text: &[u8]) -> Result<Ioc, IocFault>
+pub fn read_ioc(alloc: Global, text: &[u8]) -> Result<Ioc, Refusal<IocFault>>
     requires { length text.now < 2 ^ 32 }
     ensures { Gives (λ ioc. ioc) result (ioc_of text.now) }
 {
@@ -111,7 +112,8 @@ pub fn read_ioc(alloc: Global, text: &[u8]) -> Result<Ioc, IocFault>
         match line_of(alloc, &mut scratch, number, bytes) {
             Ok(Some(line)) => lines.push(line)?,
             Ok(None) => {}
-            Err(fault) => return refused(alloc, lines, fault),
+            Err(Refusal::Fault(fault)) => return refused(alloc, lines, fault),
+            Err(Refusal::OutOfMemory) => return Err(Refusal::OutOfMemory),
         }
     }
     Ioc::of(alloc, lines)

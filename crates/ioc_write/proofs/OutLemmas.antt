@@ -268,15 +268,15 @@ module _ (text : List ℕ) (p : ProblemParts) (at : List ℕ) (s : Suits p at) (
   abbrev pins : ℕ
   pins = pins_written p (text_lines text)
 
-  front_of : (front : List ℕ) → lines_written p at pins 1 (text_lines text) ≡ Ok front → IsWritten p at pins t.parts.front t.parts.tail front
-  front_of front e = written p at pins (set_of p at s) s.range few t.parts.front t.parts.tail 1 front t.parts.ended t.parts.clean t.front t.tail empty_reads
+  prefix_of : (front : List ℕ) → lines_written p at pins 1 (text_lines text) ≡ Ok front → IsWritten p at pins t.parts.front t.parts.tail front
+  prefix_of front e = written p at pins (set_of p at s) s.range few t.parts.front t.parts.tail 1 front t.parts.ended t.parts.clean t.front t.tail empty_reads
       (ap (lines_written p at pins 1) (sym t.parts.is) ∙ e)
 
   closed_of : (front : List ℕ) → k + needs_in p.signals ≤ 2 ^ 64 → lines_written p at pins 1 (text_lines text) ≡ Ok front
       → IsClosed (flat_map (changed p at pins) (entries (map says_on (text_lines text)))) (texts_of (appended_entries p at k keys)) (followed_by front (appended p at (text_lines text)))
   unfolding appended
   closed_of front room e =
-      let w = front_of front e in
+      let w = prefix_of front e in
       let added_is = appended_added p at s pins k keys room in
       let c = followed_says w.lines w.rest w.ended w.clean w.reads w.last (texts_of (appended_entries p at k keys)) (are_added (appended_entries p at k keys) (are_entries p at s pins k keys room)) in
       subst (λ (x : List Entry). IsClosed x (texts_of (appended_entries p at k keys)) (followed_by front (appended p at (text_lines text)))) (w.is ∙ ap (flat_map (changed p at pins)) (sym t.is))

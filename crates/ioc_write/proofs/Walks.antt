@@ -6,12 +6,13 @@ use Rattle.res_model.specs.declared.project.Signal.{Signal}
 use Rattle.res_model.specs.declared.table.Mode.TheVariants.{Held}
 use Rattle.res_model.specs.declared.table.PinUse.{PinUse}
 use Rattle.res_model.specs.declared.table.TableParts.{TableParts}
-use Rattle.ioc_write.specs.BackFaults.{Refuses}
+use Rattle.refusal.specs.declared.refusal.Refusal.{Refusal}
+use Rattle.refusal.specs.declared.refusal.Refusal.TheVariants.{Fault, OutOfMemory}
+use Rattle.refusal.specs.Refusals.{Refuses}
 use Rattle.ioc_lines.specs.Lines.{TextLine, keyed}
 use Rattle.ioc_write.specs.Survey.{above}
 use Rattle.ioc_write.specs.WriteBack.{needs_lines, needs_of, number_on, pin_entry, pin_name, pin_numbers, signal_entry}
 use Rattle.ioc_write.specs.declared.fault.BackFault.{BackFault}
-use Rattle.ioc_write.specs.declared.fault.BackFault.TheVariants.{NoNumber, LongLine, Memory}
 use Rattle.ioc_write.proofs.Fates.{next_of}
 
 abbrev Bytes : Type 0
@@ -37,10 +38,9 @@ err_both : (out : List ℕ) (r more : Bytes) (e : BackFault) → with_front out 
 err_both out r more e h = rw (err_front out r e h) refl
 
 -- a line was refused
-pub line_refused : (e : BackFault) (out : List ℕ) (r more : Bytes) → Refuses e (with_front out r) → Refuses e (with_front out (both r more))
-line_refused Memory out r more h = tt
-line_refused NoNumber out r more h = err_both out r more NoNumber h
-line_refused (LongLine line) out r more h = err_both out r more (LongLine line) h
+pub line_refused : (e : Refusal BackFault) (out : List ℕ) (r more : Bytes) → Refuses e (with_front out r) → Refuses e (with_front out (both r more))
+line_refused (Fault fault) out r more h = err_both out r more fault h
+line_refused OutOfMemory out r more h = tt
 
 -- ---- what keys say together
 

@@ -1,5 +1,4 @@
 pub mod Back
-pub mod BackFaults
 pub mod Plans
 pub mod Reading
 pub mod ReadsBack

@@ -1,7 +1,7 @@
 //! The text of a project with a choice as its homes.
 ghost use Rattle.std.specs.Prelude.{◌≡◌, ◌≢◌, ◌≤◌, ◌<◌, ◌+◌, ◌^◌, ◌++◌, length, nat_le, true, IfOk, OnOk};
 ghost use Rattle.choice_rank.specs.Choices.{IsChoice};
-ghost use Rattle.ioc_write.specs.BackFaults.{Gives};
+ghost use Rattle.refusal.specs.Refusals.{Gives};
 ghost use Rattle.ioc_lines.specs.Lines.{text_lines};
 ghost use Rattle.res_model.specs.Placement.{fits};
 ghost use Rattle.res_model.specs.declared.opts.Opts.{Opts};
@@ -17,6 +17,7 @@ use crate::survey::{Survey, survey_of};
 use crate::variable::VARIABLES;
 use crate::write::put_lines;
 use problem::Problem;
+use refusal::Refusal;
 use res_base::OutOfMemory;
 use res_model::PinUse;
 use std::alloc::Global;
@@ -108,7 +109,7 @@ fn lines_back(
     plan: &Plan<'_>,
     survey: &Survey,
     uses: &[PinUse],
-) -> Result<Vec<u8>, BackFault>
+) -> Result<Vec<u8>, Refusal<BackFault>>
     requires few { length text.now < 2 ^ 32 }
     requires plan { IsPlan plan.now }
     requires survey { IsSurvey (text_lines text.now) survey.now }
@@ -127,7 +128,12 @@ fn lines_back(
 
 /// The same text, with no word on how it reads.
 #[tactic(auto, unfolding(crate::specs::WriteBack::written_back))]
-fn text_back(alloc: Global, text: &[u8], p: &Problem, at: &[u16]) -> Result<Vec<u8>, BackFault>
+fn text_back(
+    alloc: Global,
+    text: &[u8],
+    p: &Problem,
+    at: &[u16],
+) -> Result<Vec<u8>, Refusal<BackFault>>
     requires few { length text.now < 2 ^ 32 }
     requires choice { IsChoice p.now.shape at.now }
     requires whole { p.now.first ≢ 0 }
@@ -136,7 +142,7 @@ fn text_back(alloc: Global, text: &[u8], p: &Problem, at: &[u16]) -> Result<Vec<
     let survey = survey_of(alloc, text)?;
     let needs = needs_in(p);
     if !have_numbers(survey.last, needs) {
-        return Err(BackFault::NoNumber);
+        return Err(Refusal::Fault(BackFault::NoNumber));
     }
     let uses = uses_of(alloc, p, at)?;
     let plan = plan_of(alloc, p, at, uses.as_slice(), survey.pins + needs as u64)?;
@@ -148,7 +154,12 @@ fn text_back(alloc: Global, text: &[u8], p: &Problem, at: &[u16]) -> Result<Vec<
 /// `NoNumber` comes where the needs would be numbered above 2^64 - 1; else `LongLine` names the first line of the text
 /// that would get more than 65,535 bytes. Where the problem is that of the text under some options, and the pins of the
 /// choice fit, what is written reads back: under the same options but no needs, with the choice as its homes.
-pub fn write_back(alloc: Global, text: &[u8], p: &Problem, at: &[u16]) -> Result<Vec<u8>, BackFault>
+pub fn write_back(
+    alloc: Global,
+    text: &[u8],
+    p: &Problem,
+    at: &[u16],
+) -> Result<Vec<u8>, Refusal<BackFault>>
     requires few { length text.now < 2 ^ 32 }
     requires choice { IsChoice p.now.shape at.now }
     requires whole { p.now.first ≢ 0 }

@@ -1,7 +1,7 @@
 //! The lines of a text, each as a plan leaves it.
 ghost use Rattle.std.specs.Prelude.{◌≡◌, ◌<◌, ◌+◌, ◌++◌, ◌^◌, length, take, Ok, OnOk};
 ghost use Rattle.res_model.specs.Steps.{with_front};
-ghost use Rattle.ioc_write.specs.BackFaults.{Gives};
+ghost use Rattle.refusal.specs.Refusals.{Gives};
 ghost use Rattle.ioc_lines.specs.Lines.{escaped, last_dot, rest_from, text_line, text_lines, with_pin, with_value};
 ghost use Rattle.ioc_write.specs.Plans.{IsPlan};
 ghost use Rattle.ioc_write.specs.WriteBack.{limited, line_written, lines_written, said, written};
@@ -13,6 +13,7 @@ use crate::keys::{key_into, last_dot};
 use crate::lines::first_line;
 use crate::plan::Plan;
 use crate::variable::put_value;
+use refusal::Refusal;
 use res_base::{OutOfMemory, put_dec};
 use std::alloc::{AllocError, Global};
 
@@ -20,7 +21,7 @@ use std::alloc::{AllocError, Global};
 const MOST: usize = 65535;
 
 /// What stands up to the `=` of a line, and the `=`.
-fn front_of(says: &[u8], equals: usize) -> &[u8]
+fn prefix_of(says: &[u8], equals: usize) -> &[u8]
     requires { equals < length says.now }
     ensures { result.now ≡ take (equals + 1) says.now }
 {
@@ -70,23 +71,23 @@ fn put_said(
         Change::Kept => Ok(out.extend_from_slice(says)?),
         Change::Dropped => Ok(()),
         Change::Named(pin) => {
-            out.extend_from_slice(front_of(says, equals))?;
+            out.extend_from_slice(prefix_of(says, equals))?;
             Ok(put_escaped(out, plan.pin_name(pin))?)
         }
         Change::Renamed(pin) => Ok(put_with_pin(out, says, equals, plan.pin_name(pin))?),
         Change::Set(v) => {
-            out.extend_from_slice(front_of(says, equals))?;
+            out.extend_from_slice(prefix_of(says, equals))?;
             put_value(alloc, out, &plan.clocks(), v)
         }
         Change::Counted => {
-            out.extend_from_slice(front_of(says, equals))?;
+            out.extend_from_slice(prefix_of(says, equals))?;
             put_dec(alloc, out, plan.pins)
         }
     }
 }
 
 /// A line that stays.
-fn put_kept(out: &mut Vec<u8>, says: &[u8], end: &[u8]) -> Result<(), BackFault>
+fn put_kept(out: &mut Vec<u8>, says: &[u8], end: &[u8]) -> Result<(), Refusal<BackFault>>
     ensures { Gives (λ _. out.new.items) result (with_front out.old.items (Ok (says.now ++ end.now))) }
 {
     out.extend_from_slice(says)?;
@@ -95,11 +96,16 @@ fn put_kept(out: &mut Vec<u8>, says: &[u8], end: &[u8]) -> Result<(), BackFault>
 }
 
 /// A line that was changed.
-fn put_limited(out: &mut Vec<u8>, number: u32, says: &[u8], end: &[u8]) -> Result<(), BackFault>
+fn put_limited(
+    out: &mut Vec<u8>,
+    number: u32,
+    says: &[u8],
+    end: &[u8],
+) -> Result<(), Refusal<BackFault>>
     ensures { Gives (λ _. out.new.items) result (with_front out.old.items (limited number says.now end.now)) }
 {
     if says.len() > MOST {
-        return Err(BackFault::LongLine { line: number });
+        return Err(Refusal::Fault(BackFault::LongLine { line: number }));
     }
     put_kept(out, says, end)
 }
@@ -112,7 +118,7 @@ fn put_written(
     said: &[u8],
     says: &[u8],
     end: &[u8],
-) -> Result<(), BackFault>
+) -> Result<(), Refusal<BackFault>>
     ensures { Gives (λ _. out.new.items) result (with_front out.old.items (written number (text_line says.now end.now) change said.now)) }
 {
     match change {
@@ -134,7 +140,7 @@ fn put_line(
     number: u32,
     says: &[u8],
     end: &[u8],
-) -> Result<(), BackFault>
+) -> Result<(), Refusal<BackFault>>
     requires { IsPlan plan.now }
     ensures { Gives (λ _. out.new.items) result (with_front out.old.items (line_written plan.now.problem.now plan.now.at.now plan.now.pins number (text_line says.now end.now))) }
 {
@@ -153,7 +159,7 @@ pub(crate) fn put_lines(
     out: &mut Vec<u8>,
     plan: &Plan<'_>,
     text: &[u8],
-) -> Result<(), BackFault>
+) -> Result<(), Refusal<BackFault>>
     requires plan { IsPlan plan.now }
     requires few { length text.now < 2 ^ 32 }
     ensures { Gives (λ _. out.new.items) result (with_front out.old.items (lines_written plan.now.problem.now plan.now.at.now plan.now.pins 1 (text_lines text.now))) }

@@ -4,9 +4,10 @@ use Rattle.std.specs.Prelude.{codes}
 use Rattle.res_model.specs.Steps.{◌>>=◌}
 use Rattle.mcu_tables.specs.Table.{top, number_within, list, distinct_text, text, pin, signal, hse_names, ip, clock, all_limits, supply, defaults, legal, table}
 use Rattle.serde_json.specs.Data.{Data}
-use Rattle.mcu_tables.specs.Places.{Refused, Reads}
+use Rattle.mcu_tables.specs.Places.{Reads}
 use Rattle.mcu_tables.specs.declared.place.Flaw.{Flaw}
-use Rattle.mcu_tables.specs.declared.place.Flaw.TheVariants.{NotJson, Missing, BadField, Repeated, ResetIllegal, Memory}
+use Rattle.refusal.specs.declared.refusal.Refusal.{Refusal}
+use Rattle.refusal.specs.declared.refusal.Refusal.TheVariants.{Fault, OutOfMemory}
 use Rattle.mcu_tables.specs.declared.fault.TableFault.{TableFault}
 use Rattle.res_model.specs.declared.table.Pin.{Pin}
 use Rattle.res_model.specs.declared.table.TableSignal.{TableSignal}
@@ -46,14 +47,7 @@ table_ends d v names parcel pins signals hse ips c l power seen vos same_pins sa
     ∙ step (all_limits v d) l _ e9
     ∙ step (supply c.vos d) power _ (subst (λ (ns : List ℕ). supply ns d ≡ Ok power) same_vos e10)
 
--- a fault of a step is that of the whole
-pub refused_step : {A B : Type 0} (e : Flaw) (r : Result A TableFault) (f : A → Result B TableFault) → Refused e r → Refused e (r >>= f)
-refused_step NotJson r f h = ap (λ (q : Result _ TableFault). q >>= f) h
-refused_step (Missing at) r f h = ap (λ (q : Result _ TableFault). q >>= f) h
-refused_step (BadField at) r f h = ap (λ (q : Result _ TableFault). q >>= f) h
-refused_step (Repeated at) r f h = ap (λ (q : Result _ TableFault). q >>= f) h
-refused_step (ResetIllegal limit) r f h = ap (λ (q : Result _ TableFault). q >>= f) h
-refused_step Memory r f h = tt
-
-pub refused_reads : {A B : Type 0} (e : Flaw) (read : Result B Flaw) (r : Result A TableFault) (f : A → Result B TableFault) → read ≡ Err e → Refused e r → Reads (λ (x : B). x) read (r >>= f)
-refused_reads {A} {B} e read r f is h = subst (λ (q : Result B Flaw). Reads (λ (x : B). x) q (r >>= f)) (sym is) (refused_step e r f h)
+-- a refusal of a step is that of the whole
+pub refused_reads : {A B C : Type 0} (e : Refusal Flaw) (seen : A → C) (read : Result B (Refusal Flaw)) (r : Result C TableFault) (f : C → Result B TableFault) → read ≡ Err e → Reads seen (Err e) r → Reads (λ (x : B). x) read (r >>= f)
+refused_reads {A} {B} {C} (Fault flaw) seen read r f is h = subst (λ (q : Result B (Refusal Flaw)). Reads (λ (x : B). x) q (r >>= f)) (sym is) (ap (λ (q : Result C TableFault). q >>= f) h)
+refused_reads {A} {B} {C} OutOfMemory seen read r f is h = subst (λ (q : Result B (Refusal Flaw)). Reads (λ (x : B). x) q (r >>= f)) (sym is) tt

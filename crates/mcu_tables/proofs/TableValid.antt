@@ -8,6 +8,8 @@ use Rattle.res_base.proofs.ListLemmas.{each_map}
 use Rattle.mcu_tables.specs.Json.{json_of}
 use Rattle.res_model.specs.ClockValues.{hsi}
 use Rattle.res_model.specs.Power.{over_speeds, plain_speeds, speeds_at}
+use Rattle.res_model.specs.declared.limit.Limit.{Limit}
+use Rattle.res_model.specs.declared.limit.Limit.TheVariants as the_limit
 use Rattle.mcu_tables.specs.Table.{below, due, top, text, number_within, list, distinct_text, pin, signal, ip, clock, all_limits, scales, flash_range, defaults, is_low, reset_fault, unless_illegal, legal, hse_names, supply, table, tables_of}
 use Rattle.res_model.specs.Valid.{IsText, ArePins, AreSignals, AreIps, AreBounds, AreSpeeds, HasOver, AreScales, IsFlashRange, AreFlash, IsValid}
 use Rattle.mcu_tables.proofs.TableLaws.{bound, same_ok, need_keeps, none_passes, neither, text_keeps, number_keeps, Kept, list_keeps}
@@ -55,7 +57,7 @@ supply_keeps vos d p h =
 
 -- ---- the state after reset
 
-skipped : (b : Bool) (x : ℕ) (rest : Option ℕ) → (if b then Some x else rest) ≡ None → (b ≡ false) × (rest ≡ None)
+skipped : (b : Bool) (x : Limit) (rest : Option Limit) → (if b then Some x else rest) ≡ None → (b ≡ false) × (rest ≡ None)
 skipped true x rest h = absurd cc
 skipped false x rest h = (refl, h)
 
@@ -84,15 +86,15 @@ unfolding reset_fault speeds_at
 reset_legal t h =
     let low_scale = list_any (λ s. nat_lt s.max hsi) t.scales in
     let low_row = list_any (λ r. nat_lt (slice_index r.rows 0) hsi) t.flash in
-    let flash : Option ℕ = if low_row then Some 13 else None in
-    let pclk2 : Option ℕ = if is_low (λ o. o.pclk2) t then Some 9 else flash in
-    let pclk1 : Option ℕ = if is_low (λ o. o.pclk1) t then Some 8 else pclk2 in
-    let scales : Option ℕ = if low_scale then Some 7 else pclk1 in
-    let a = skipped (is_low (λ o. o.sysclk) t) 6 scales h in
-    let b = skipped low_scale 7 pclk1 a.1 in
-    let c = skipped (is_low (λ o. o.pclk1) t) 8 pclk2 b.1 in
-    let d = skipped (is_low (λ o. o.pclk2) t) 9 flash c.1 in
-    let e = skipped low_row 13 None d.1 in
+    let flash : Option Limit = if low_row then Some the_limit.FlashRow else None in
+    let pclk2 : Option Limit = if is_low (λ o. o.pclk2) t then Some the_limit.Pclk2 else flash in
+    let pclk1 : Option Limit = if is_low (λ o. o.pclk1) t then Some the_limit.Pclk1 else pclk2 in
+    let scales : Option Limit = if low_scale then Some the_limit.Hclk else pclk1 in
+    let a = skipped (is_low (λ o. o.sysclk) t) the_limit.Sysclk scales h in
+    let b = skipped low_scale the_limit.Hclk pclk1 a.1 in
+    let c = skipped (is_low (λ o. o.pclk1) t) the_limit.Pclk1 pclk2 b.1 in
+    let d = skipped (is_low (λ o. o.pclk2) t) the_limit.Pclk2 flash c.1 in
+    let e = skipped low_row the_limit.FlashRow None d.1 in
     let s = not_low (λ o. o.sysclk) t a.0 in
     let p = not_low (λ o. o.pclk1) t c.0 in
     let q = not_low (λ o. o.pclk2) t d.0 in
@@ -103,7 +105,7 @@ reset_legal t h =
       flash = each_map (λ r. nat_lt (slice_index r.rows 0) hsi ≡ false) (λ (r : FlashRange). hsi ≤ slice_index r.rows 0) t.flash (λ r k. not_below (slice_index r.rows 0) hsi k) (none_passes (λ r. nat_lt (slice_index r.rows 0) hsi) t.flash e.0);
     }
 
-unless_none : (o : Option ℕ) (t u : TableParts) → unless_illegal o t ≡ Ok u → (o ≡ None) × (t ≡ u)
+unless_none : (o : Option Limit) (t u : TableParts) → unless_illegal o t ≡ Ok u → (o ≡ None) × (t ≡ u)
 unless_none None t u h = (refl, same_ok t u h)
 unless_none (Some n) t u h = absurd cc
 

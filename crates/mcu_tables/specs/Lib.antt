@@ -3,4 +3,3 @@ pub mod Json
 pub mod Places
 pub mod Seen
 pub mod Table
-pub mod TableFaults

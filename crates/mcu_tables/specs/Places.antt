@@ -1,5 +1,7 @@
 -- Internal: the places of faults, and how a path spells them.
 use Rattle.std.specs.Prelude.{◌≡◌, ℕ, List, [], codes, decimal, Result, Ok, Err}
+use Rattle.refusal.specs.declared.refusal.Refusal.{Refusal}
+use Rattle.refusal.specs.declared.refusal.Refusal.TheVariants.{Fault, OutOfMemory}
 use Rattle.mcu_tables.specs.Table.{below}
 use Rattle.mcu_tables.specs.declared.fault.TableFault.{TableFault}
 use Rattle.mcu_tables.specs.declared.fault.TableFault.TheVariants as fault
@@ -10,7 +12,7 @@ use Rattle.mcu_tables.specs.declared.place.Spot.TheVariants.{Top, Nested, Deep, 
 use Rattle.mcu_tables.specs.declared.place.Place.{Place}
 use Rattle.mcu_tables.specs.declared.place.Place.TheVariants.{Member, Entry}
 use Rattle.mcu_tables.specs.declared.place.Flaw.{Flaw}
-use Rattle.mcu_tables.specs.declared.place.Flaw.TheVariants.{NotJson, Missing, BadField, Repeated, ResetIllegal, Memory}
+use Rattle.mcu_tables.specs.declared.place.Flaw.TheVariants.{NotJson, Missing, BadField, Repeated, ResetIllegal}
 
 abbrev pub spelling : Key → List ℕ
 spelling Version = codes "version"
@@ -82,18 +84,9 @@ fault_of (Missing at) = fault.Missing (spelled at)
 fault_of (BadField at) = fault.BadField (spelled at)
 fault_of (Repeated at) = fault.Repeated (spelled at)
 fault_of (ResetIllegal limit) = fault.ResetIllegal limit
-fault_of Memory = fault.Memory
 
--- the definition refuses with this very fault, at this place
-abbrev pub Refused : {Y : Type 0} → Flaw → Result Y TableFault → Type 0
-Refused Memory read = Unit {0}
-Refused NotJson read = read ≡ Err fault.NotJson
-Refused (Missing at) read = read ≡ Err (fault.Missing (spelled at))
-Refused (BadField at) read = read ≡ Err (fault.BadField (spelled at))
-Refused (Repeated at) read = read ≡ Err (fault.Repeated (spelled at))
-Refused (ResetIllegal limit) read = read ≡ Err (fault.ResetIllegal limit)
-
--- what was read, seen by look, is what the definition reads
-abbrev pub Reads : {X Y : Type 0} → (X → Y) → Result X Flaw → Result Y TableFault → Type 0
+-- what was read, seen by look, is what the definition reads; or it refuses with this very fault, at this place
+abbrev pub Reads : {X Y : Type 0} → (X → Y) → Result X (Refusal Flaw) → Result Y TableFault → Type 0
 Reads look (Ok x) read = read ≡ Ok (look x)
-Reads look (Err e) read = Refused e read
+Reads look (Err (Fault flaw)) read = read ≡ Err (fault_of flaw)
+Reads look (Err OutOfMemory) read = Unit {0}

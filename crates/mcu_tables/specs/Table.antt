@@ -2,7 +2,7 @@
 use Rattle.std.specs.Prelude.{ℕ, ◌==◌, ◌-◌, ◌&&◌, ◌||◌, List, [], ◌∷◌, ◌++◌, length, Bool, true, false, not, nat_lt, nat_le, if◌then◌else◌, Option, Some, None, option_and_then, Result, Ok, Err, find, codes, decimal, slice_index, slice_get, option_map, ⊤}
 use Rattle.std.specs.List.{list_any}
 use Rattle.std.specs.Str.{bytes_eq}
-use Rattle.res_model.specs.LimitNumbers.{limit_number}
+use Rattle.res_model.specs.declared.limit.Limit.{Limit}
 use Rattle.res_model.specs.declared.limit.Limit.TheVariants as the_limit
 use Rattle.res_model.specs.Steps.{◌>>=◌}
 use Rattle.res_model.specs.ClockValues.{ahb_dividers, apb_dividers, pll_dividers, known_steps, widest_hclk, hsi}
@@ -452,15 +452,15 @@ abbrev pub is_low : (Over → ℕ) → TableParts → Bool
 is_low limit t = nat_lt (limit (speeds_at t 1)) hsi || nat_lt (limit (speeds_at t 4)) hsi
 
 -- the least limit that the state after reset would break
-unfoldable pub reset_fault : TableParts → Option ℕ
+unfoldable pub reset_fault : TableParts → Option Limit
 reset_fault t =
-    if is_low (λ o. o.sysclk) t then Some (limit_number the_limit.Sysclk) else
-    (if list_any (λ s. nat_lt s.max hsi) t.scales then Some (limit_number the_limit.Hclk) else
-    (if is_low (λ o. o.pclk1) t then Some (limit_number the_limit.Pclk1) else
-    (if is_low (λ o. o.pclk2) t then Some (limit_number the_limit.Pclk2) else
-    (if list_any (λ r. nat_lt (slice_index r.rows 0) hsi) t.flash then Some (limit_number the_limit.FlashRow) else None))))
+    if is_low (λ o. o.sysclk) t then Some the_limit.Sysclk else
+    (if list_any (λ s. nat_lt s.max hsi) t.scales then Some the_limit.Hclk else
+    (if is_low (λ o. o.pclk1) t then Some the_limit.Pclk1 else
+    (if is_low (λ o. o.pclk2) t then Some the_limit.Pclk2 else
+    (if list_any (λ r. nat_lt (slice_index r.rows 0) hsi) t.flash then Some the_limit.FlashRow else None))))
 
-abbrev pub unless_illegal : Option ℕ → TableParts → Result TableParts TableFault
+abbrev pub unless_illegal : Option Limit → TableParts → Result TableParts TableFault
 unless_illegal None t = Ok t
 unless_illegal (Some limit) t = Err (ResetIllegal limit)
 

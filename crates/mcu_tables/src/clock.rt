@@ -10,6 +10,7 @@ use crate::forms::{check_object, number_at, pair_at};
 use crate::json::{member_of, needed, nested};
 use crate::lists::{one_among, some_among};
 use crate::place::{Flaw, Key, Place, Spot};
+use refusal::Refusal;
 use res_base::Items;
 use res_model::{Bounds, Domains, Over};
 use serde_json::Value;
@@ -27,7 +28,7 @@ const SCALES: [u16; 2] = [1, 2];
 
 const STEPS: [u16; 5] = [1, 2, 3, 4, 5];
 
-fn clock_pair(root: &Value, key: Key, low: u16, high: u16) -> Result<(u16, u16), Flaw>
+fn clock_pair(root: &Value, key: Key, low: u16, high: u16) -> Result<(u16, u16), Refusal<Flaw>>
     ensures { Reads (λ p. p) result (nested (pair_within low high) (spelling Key.Clock) (spelling key) (view root.now)) }
 {
     let value = nested(root, Key::Clock, key)?;
@@ -36,14 +37,19 @@ fn clock_pair(root: &Value, key: Key, low: u16, high: u16) -> Result<(u16, u16),
     Ok((least as u16, greatest as u16))
 }
 
-fn clock_list(alloc: Global, root: &Value, key: Key, these: &[u16]) -> Result<Items<u16>, Flaw>
+fn clock_list(
+    alloc: Global,
+    root: &Value,
+    key: Key,
+    these: &[u16],
+) -> Result<Items<u16>, Refusal<Flaw>>
     ensures { Reads (λ v. v) result (nested (one_among these.now) (spelling Key.Clock) (spelling key) (view root.now)) }
 {
     let value = nested(root, Key::Clock, key)?;
     one_among(alloc, these, Spot::Nested(Key::Clock, key), value)
 }
 
-fn pll_list(alloc: Global, root: &Value) -> Result<Items<u16>, Flaw>
+fn pll_list(alloc: Global, root: &Value) -> Result<Items<u16>, Refusal<Flaw>>
     ensures { Reads (λ v. v) result (nested (some_among pll_dividers) (codes "clock") (codes "p") (view root.now)) }
 {
     let value = nested(root, Key::Clock, Key::P)?;
@@ -71,18 +77,23 @@ fn are_paired(steps: &[u16]) -> bool
 }
 
 #[tactic(auto, unfolding(crate::specs::Table::steps))]
-fn steps_at(alloc: Global, version: u8, at: Spot, value: &Value) -> Result<Items<u16>, Flaw>
+fn steps_at(
+    alloc: Global,
+    version: u8,
+    at: Spot,
+    value: &Value,
+) -> Result<Items<u16>, Refusal<Flaw>>
     ensures { Reads (λ v. v) result (steps version (path_of at) (view value.now)) }
 {
     let steps = one_among(alloc, known_steps(version), at, value)?;
     if are_paired(steps.as_slice()) {
         Ok(steps)
     } else {
-        Err(Flaw::BadField(Place::Member(at)))
+        Err(Refusal::Fault(Flaw::BadField(Place::Member(at))))
     }
 }
 
-fn step_list(alloc: Global, version: u8, root: &Value) -> Result<Items<u16>, Flaw>
+fn step_list(alloc: Global, version: u8, root: &Value) -> Result<Items<u16>, Refusal<Flaw>>
     ensures { Reads (λ v. v) result (nested (steps version) (codes "clock") (codes "vos") (view root.now)) }
 {
     let value = nested(root, Key::Clock, Key::Vos)?;
@@ -91,7 +102,7 @@ fn step_list(alloc: Global, version: u8, root: &Value) -> Result<Items<u16>, Fla
 
 /// The domains of the clock variables, by the table's version.
 #[tactic(auto, unfolding(crate::specs::Table::clock))]
-pub fn clock_of(alloc: Global, version: u8, root: &Value) -> Result<Domains, Flaw>
+pub fn clock_of(alloc: Global, version: u8, root: &Value) -> Result<Domains, Refusal<Flaw>>
     ensures { Reads (λ c. c) result (clock version (view root.now)) }
 {
     let m = clock_pair(root, Key::M, 2, 63)?;
@@ -114,7 +125,7 @@ pub fn clock_of(alloc: Global, version: u8, root: &Value) -> Result<Domains, Fla
     })
 }
 
-fn limit_pair(root: &Value, key: Key, low: u64, high: u64) -> Result<(u64, u64), Flaw>
+fn limit_pair(root: &Value, key: Key, low: u64, high: u64) -> Result<(u64, u64), Refusal<Flaw>>
     ensures { Reads (λ p. p) result (nested (pair_within low high) (spelling Key.Limits) (spelling key) (view root.now)) }
 {
     let value = nested(root, Key::Limits, key)?;
@@ -122,7 +133,7 @@ fn limit_pair(root: &Value, key: Key, low: u64, high: u64) -> Result<(u64, u64),
     pair_at(low, high, at, value)
 }
 
-fn limit_number(root: &Value, key: Key, high: u64) -> Result<u64, Flaw>
+fn limit_number(root: &Value, key: Key, high: u64) -> Result<u64, Refusal<Flaw>>
     ensures { Reads (λ n. n) result (nested (number_within 1 high) (spelling Key.Limits) (spelling key) (view root.now)) }
 {
     let value = nested(root, Key::Limits, key)?;
@@ -132,7 +143,7 @@ fn limit_number(root: &Value, key: Key, high: u64) -> Result<u64, Flaw>
 
 /// The limits of the clock tree without over-drive.
 #[tactic(auto, unfolding(crate::specs::Table::limits))]
-fn limits_of(root: &Value) -> Result<Bounds, Flaw>
+fn limits_of(root: &Value) -> Result<Bounds, Refusal<Flaw>>
     ensures { Reads (λ b. b) result (limits (view root.now)) }
 {
     let crystal = limit_pair(root, Key::Crystal, 4000000, 26000000)?;
@@ -153,7 +164,7 @@ fn limits_of(root: &Value) -> Result<Bounds, Flaw>
     })
 }
 
-fn over_number(over: &Value, key: Key, high: u64) -> Result<u64, Flaw>
+fn over_number(over: &Value, key: Key, high: u64) -> Result<u64, Refusal<Flaw>>
     ensures { Reads (λ n. n) result (member (number_within 1 high) (path_of (Spot.Nested Key.Limits Key.Over)) (spelling key) (view over.now)) }
 {
     let at = Spot::Deep(Key::Limits, Key::Over, key);
@@ -162,7 +173,7 @@ fn over_number(over: &Value, key: Key, high: u64) -> Result<u64, Flaw>
 }
 
 #[tactic(auto, unfolding(crate::specs::Table::over_form))]
-fn over_at(value: &Value) -> Result<Over, Flaw>
+fn over_at(value: &Value) -> Result<Over, Refusal<Flaw>>
     ensures { Reads (λ o. o) result (over_form (path_of (Spot.Nested Key.Limits Key.Over)) (view value.now)) }
 {
     check_object(Place::Member(Spot::Nested(Key::Limits, Key::Over)), value)?;
@@ -177,7 +188,7 @@ fn over_at(value: &Value) -> Result<Over, Flaw>
 }
 
 #[tactic(auto, unfolding(crate::specs::Table::some_over))]
-fn some_over(root: &Value) -> Result<Option<Over>, Flaw>
+fn some_over(root: &Value) -> Result<Option<Over>, Refusal<Flaw>>
     ensures { Reads (λ o. o) result (nested some_over (codes "limits") (codes "over") (view root.now)) }
 {
     let value = nested(root, Key::Limits, Key::Over)?;
@@ -187,7 +198,7 @@ fn some_over(root: &Value) -> Result<Option<Over>, Flaw>
 
 /// The limits with over-drive, which tables of version 1 do not have.
 #[tactic(auto, unfolding(crate::specs::Table::over))]
-fn over_of(version: u8, root: &Value) -> Result<Option<Over>, Flaw>
+fn over_of(version: u8, root: &Value) -> Result<Option<Over>, Refusal<Flaw>>
     ensures { Reads (λ o. o) result (over version (view root.now)) }
 {
     if version == 1 {
@@ -199,7 +210,7 @@ fn over_of(version: u8, root: &Value) -> Result<Option<Over>, Flaw>
 
 /// The limits of the clock tree without over-drive, and those with it.
 #[tactic(auto, unfolding(crate::specs::Table::all_limits))]
-pub fn all_limits(version: u8, root: &Value) -> Result<(Bounds, Option<Over>), Flaw>
+pub fn all_limits(version: u8, root: &Value) -> Result<(Bounds, Option<Over>), Refusal<Flaw>>
     ensures { Reads (λ p. p) result (all_limits version (view root.now)) }
 {
     let plain = limits_of(root)?;

@@ -9,6 +9,7 @@ ghost use Rattle.mcu_tables.specs.Places.{spelling, spelled, path_of, Reads};
 use crate::forms::{among_at, number_at};
 use crate::json::{member_of, nested};
 use crate::place::{Flaw, Key, Place, Spot};
+use refusal::Refusal;
 use res_model::Domains;
 use serde_json::Value;
 
@@ -41,32 +42,32 @@ fn pll_source_of(word: &str) -> Option<u64>
 }
 
 #[tactic(auto, unfolding(crate::specs::Table::source_form))]
-fn source_at(at: Place, value: &Value) -> Result<u64, Flaw>
+fn source_at(at: Place, value: &Value) -> Result<u64, Refusal<Flaw>>
     ensures { Reads (λ n. n) result (source_form (spelled at) (view value.now)) }
 {
     let Some(word) = value.as_str() else {
-        return Err(Flaw::BadField(at));
+        return Err(Refusal::Fault(Flaw::BadField(at)));
     };
     match source_of(word) {
         Some(source) => Ok(source),
-        None => Err(Flaw::BadField(at)),
+        None => Err(Refusal::Fault(Flaw::BadField(at))),
     }
 }
 
 #[tactic(auto, unfolding(crate::specs::Table::pll_source_form))]
-fn pll_source_at(at: Place, value: &Value) -> Result<u64, Flaw>
+fn pll_source_at(at: Place, value: &Value) -> Result<u64, Refusal<Flaw>>
     ensures { Reads (λ n. n) result (pll_source_form (spelled at) (view value.now)) }
 {
     let Some(word) = value.as_str() else {
-        return Err(Flaw::BadField(at));
+        return Err(Refusal::Fault(Flaw::BadField(at)));
     };
     match pll_source_of(word) {
         Some(source) => Ok(source),
-        None => Err(Flaw::BadField(at)),
+        None => Err(Refusal::Fault(Flaw::BadField(at))),
     }
 }
 
-fn among(root: &Value, key: Key, these: &[u16]) -> Result<u64, Flaw>
+fn among(root: &Value, key: Key, these: &[u16]) -> Result<u64, Refusal<Flaw>>
     ensures { Reads (λ n. n) result (nested (number_among these.now) (spelling Key.Defaults) (spelling key) (view root.now)) }
 {
     let value = nested(root, Key::Defaults, key)?;
@@ -78,7 +79,7 @@ fn among(root: &Value, key: Key, these: &[u16]) -> Result<u64, Flaw>
     Ok(u64::from(n))
 }
 
-fn within(root: &Value, key: Key, low: u64, high: u64) -> Result<u64, Flaw>
+fn within(root: &Value, key: Key, low: u64, high: u64) -> Result<u64, Refusal<Flaw>>
     ensures { Reads (λ n. n) result (nested (number_within low high) (spelling Key.Defaults) (spelling key) (view root.now)) }
 {
     let value = nested(root, Key::Defaults, key)?;
@@ -91,24 +92,24 @@ fn within(root: &Value, key: Key, low: u64, high: u64) -> Result<u64, Flaw>
 }
 
 #[tactic(auto, unfolding(crate::specs::Table::object_if_there))]
-fn check_defaults(root: &Value) -> Result<(), Flaw>
+fn check_defaults(root: &Value) -> Result<(), Refusal<Flaw>>
     ensures { Reads (λ u. u) result (object_if_there (path_of (Spot.Top Key.Defaults)) (get (spelling Key.Defaults) (view root.now))) }
 {
     match member_of(root, Key::Defaults) {
         Some(value) if value.is_object() => Ok(()),
-        Some(_) => Err(Flaw::BadField(Place::Member(Spot::Top(Key::Defaults)))),
+        Some(_) => Err(Refusal::Fault(Flaw::BadField(Place::Member(Spot::Top(Key::Defaults))))),
         None => Ok(()),
     }
 }
 
-fn src_of(root: &Value) -> Result<u64, Flaw>
+fn src_of(root: &Value) -> Result<u64, Refusal<Flaw>>
     ensures { Reads (λ n. n) result (nested source_form (codes "defaults") (codes "src") (view root.now)) }
 {
     let value = nested(root, Key::Defaults, Key::Src)?;
     source_at(Place::Member(Spot::Nested(Key::Defaults, Key::Src)), value)
 }
 
-fn psrc_of(root: &Value) -> Result<u64, Flaw>
+fn psrc_of(root: &Value) -> Result<u64, Refusal<Flaw>>
     ensures { Reads (λ n. n) result (nested pll_source_form (codes "defaults") (codes "psrc") (view root.now)) }
 {
     let value = nested(root, Key::Defaults, Key::Psrc)?;
@@ -116,7 +117,7 @@ fn psrc_of(root: &Value) -> Result<u64, Flaw>
 }
 
 #[tactic(auto, unfolding(crate::specs::Table::default_sources))]
-fn sources_of(root: &Value) -> Result<(u64, u64), Flaw>
+fn sources_of(root: &Value) -> Result<(u64, u64), Refusal<Flaw>>
     ensures { Reads (λ s. s) result (default_sources (view root.now)) }
 {
     let src = src_of(root)?;
@@ -125,7 +126,7 @@ fn sources_of(root: &Value) -> Result<(u64, u64), Flaw>
 }
 
 #[tactic(auto, unfolding(crate::specs::Table::default_factors))]
-fn factors_of(clock: &Domains, root: &Value) -> Result<(u64, u64, u64, u64, u64), Flaw>
+fn factors_of(clock: &Domains, root: &Value) -> Result<(u64, u64, u64, u64, u64), Refusal<Flaw>>
     ensures { Reads (λ f. f) result (default_factors clock.now (view root.now)) }
 {
     let hpre = among(root, Key::Hpre, clock.hpre.as_slice())?;
@@ -137,7 +138,7 @@ fn factors_of(clock: &Domains, root: &Value) -> Result<(u64, u64, u64, u64, u64)
 }
 
 #[tactic(auto, unfolding(crate::specs::Table::default_buses))]
-fn buses_of(clock: &Domains, root: &Value) -> Result<(u64, u64, u64), Flaw>
+fn buses_of(clock: &Domains, root: &Value) -> Result<(u64, u64, u64), Refusal<Flaw>>
     ensures { Reads (λ b. b) result (default_buses clock.now (view root.now)) }
 {
     let ppre1 = among(root, Key::Ppre1, clock.ppre1.as_slice())?;
@@ -148,7 +149,7 @@ fn buses_of(clock: &Domains, root: &Value) -> Result<(u64, u64, u64), Flaw>
 
 /// The defaults of the clock variables, each in its domain, and the HSE value in hertz.
 #[tactic(auto, unfolding(crate::specs::Table::defaults))]
-pub fn defaults_of(clock: &Domains, root: &Value) -> Result<([u64; 10], u64), Flaw>
+pub fn defaults_of(clock: &Domains, root: &Value) -> Result<([u64; 10], u64), Refusal<Flaw>>
     ensures { Reads (λ d. d) result (defaults clock.now (view root.now)) }
 {
     check_defaults(root)?;

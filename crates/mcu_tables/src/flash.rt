@@ -8,6 +8,7 @@ use crate::forms::{check_object, flag_at};
 use crate::json::{member_of, needed, number_of};
 use crate::lists::{ascending, counted_at};
 use crate::place::{Flaw, Key, Place, Spot};
+use refusal::Refusal;
 use res_base::Items;
 use res_model::FlashRange;
 use serde_json::Value;
@@ -23,30 +24,30 @@ fn is_after(before: &[FlashRange], n: u64) -> bool
 }
 
 #[tactic(auto, unfolding(crate::specs::Table::flash_from))]
-fn from_at(before: &[FlashRange], at: Place, value: &Value) -> Result<u64, Flaw>
+fn from_at(before: &[FlashRange], at: Place, value: &Value) -> Result<u64, Refusal<Flaw>>
     ensures { Reads (λ n. n) result (flash_from before.now (spelled at) (view value.now)) }
 {
     let Some(n) = number_of(value) else {
-        return Err(Flaw::BadField(at));
+        return Err(Refusal::Fault(Flaw::BadField(at)));
     };
     if is_after(before, n) {
         Ok(n)
     } else {
-        Err(Flaw::BadField(at))
+        Err(Refusal::Fault(Flaw::BadField(at)))
     }
 }
 
 #[tactic(auto, unfolding(crate::specs::Table::flash_to))]
-fn to_at(from: u64, at: Place, value: &Value) -> Result<u64, Flaw>
+fn to_at(from: u64, at: Place, value: &Value) -> Result<u64, Refusal<Flaw>>
     ensures { Reads (λ n. n) result (flash_to from (spelled at) (view value.now)) }
 {
     let Some(n) = number_of(value) else {
-        return Err(Flaw::BadField(at));
+        return Err(Refusal::Fault(Flaw::BadField(at)));
     };
     if from <= n {
         Ok(n)
     } else {
-        Err(Flaw::BadField(at))
+        Err(Refusal::Fault(Flaw::BadField(at)))
     }
 }
 
@@ -56,7 +57,7 @@ fn range_at(
     before: &[FlashRange],
     i: usize,
     value: &Value,
-) -> Result<FlashRange, Flaw>
+) -> Result<FlashRange, Refusal<Flaw>>
     ensures { Reads (λ r. r) result (flash_range before.now (entry_path Key.Flash i) (view value.now)) }
 {
     check_object(Place::Entry(Spot::Top(Key::Flash), i), value)?;
@@ -87,7 +88,7 @@ fn range_at(
     })
 }
 
-fn each_range(alloc: Global, values: &[Value]) -> Result<Vec<FlashRange>, Flaw>
+fn each_range(alloc: Global, values: &[Value]) -> Result<Vec<FlashRange>, Refusal<Flaw>>
     ensures { Reads (λ v. v.items) result (entries_after flash_range (path_of (Spot.Top Key.Flash)) [] (map view values.now)) }
 {
     let mut found = Vec::new(alloc);
@@ -100,7 +101,7 @@ fn each_range(alloc: Global, values: &[Value]) -> Result<Vec<FlashRange>, Flaw>
 
 /// The flash ranges of the table.
 #[tactic(auto, unfolding(crate::specs::Table::list))]
-pub fn flash_of(alloc: Global, value: &Value) -> Result<Items<FlashRange>, Flaw>
+pub fn flash_of(alloc: Global, value: &Value) -> Result<Items<FlashRange>, Refusal<Flaw>>
     ensures { Reads (λ v. v) result (list 0 16 flash_range (path_of (Spot.Top Key.Flash)) (view value.now)) }
 {
     let values = counted_at(Spot::Top(Key::Flash), value, 0, 16)?;

@@ -7,73 +7,74 @@ ghost use Rattle.mcu_tables.specs.Places.{spelled, path_of, Reads};
 
 use crate::json::{number_of, two_of, word_of};
 use crate::place::{Flaw, Place, Spot};
+use refusal::Refusal;
 use res_base::Text;
 use serde_json::Value;
 use std::alloc::Global;
 
 #[tactic(auto, unfolding(crate::specs::Table::text))]
-pub fn text_at<'v>(at: Place, value: &'v Value) -> Result<&'v str, Flaw>
+pub fn text_at<'v>(at: Place, value: &'v Value) -> Result<&'v str, Refusal<Flaw>>
     ensures { Reads (λ s. s.now) result (text (spelled at) (view value.now)) }
 {
     match word_of(value) {
         Some(word) => Ok(word),
-        None => Err(Flaw::BadField(at)),
+        None => Err(Refusal::Fault(Flaw::BadField(at))),
     }
 }
 
 #[tactic(auto, unfolding(crate::specs::Table::flag))]
-pub fn flag_at(at: Place, value: &Value) -> Result<bool, Flaw>
+pub fn flag_at(at: Place, value: &Value) -> Result<bool, Refusal<Flaw>>
     ensures { Reads (λ b. b) result (flag (spelled at) (view value.now)) }
 {
     match value.as_bool() {
         Some(flag) => Ok(flag),
-        None => Err(Flaw::BadField(at)),
+        None => Err(Refusal::Fault(Flaw::BadField(at))),
     }
 }
 
 #[tactic(auto, unfolding(crate::specs::Table::object))]
-pub fn check_object(at: Place, value: &Value) -> Result<(), Flaw>
+pub fn check_object(at: Place, value: &Value) -> Result<(), Refusal<Flaw>>
     ensures { Reads (λ _. view value.now) result (object (spelled at) (view value.now)) }
 {
     match value.as_object() {
         Some(_) => Ok(()),
-        None => Err(Flaw::BadField(at)),
+        None => Err(Refusal::Fault(Flaw::BadField(at))),
     }
 }
 
 #[tactic(auto, unfolding(crate::specs::Table::number_within))]
-pub fn number_at(low: u64, high: u64, at: Place, value: &Value) -> Result<u64, Flaw>
+pub fn number_at(low: u64, high: u64, at: Place, value: &Value) -> Result<u64, Refusal<Flaw>>
     ensures reads { Reads (λ n. n) result (number_within low high (spelled at) (view value.now)) }
     ensures within { IfOk result (λ n. n ≤ high) }
 {
     let Some(n) = number_of(value) else {
-        return Err(Flaw::BadField(at));
+        return Err(Refusal::Fault(Flaw::BadField(at)));
     };
     if low <= n && n <= high {
         Ok(n)
     } else {
-        Err(Flaw::BadField(at))
+        Err(Refusal::Fault(Flaw::BadField(at)))
     }
 }
 
 #[tactic(auto, unfolding(crate::specs::Table::pair_within))]
-pub fn pair_at(low: u64, high: u64, at: Place, value: &Value) -> Result<(u64, u64), Flaw>
+pub fn pair_at(low: u64, high: u64, at: Place, value: &Value) -> Result<(u64, u64), Refusal<Flaw>>
     ensures reads { Reads (λ p. p) result (pair_within low high (spelled at) (view value.now)) }
     ensures within { IfOk result (λ p. (p.0 ≤ high) × (p.1 ≤ high)) }
 {
     let Some((first, second)) = two_of(value) else {
-        return Err(Flaw::BadField(at));
+        return Err(Refusal::Fault(Flaw::BadField(at)));
     };
     let Some(least) = number_of(first) else {
-        return Err(Flaw::BadField(at));
+        return Err(Refusal::Fault(Flaw::BadField(at)));
     };
     let Some(greatest) = number_of(second) else {
-        return Err(Flaw::BadField(at));
+        return Err(Refusal::Fault(Flaw::BadField(at)));
     };
     if low <= least && least <= greatest && greatest <= high {
         Ok((least, greatest))
     } else {
-        Err(Flaw::BadField(at))
+        Err(Refusal::Fault(Flaw::BadField(at)))
     }
 }
 
@@ -84,14 +85,14 @@ fn same_of(these: &[u16], n: u64) -> Option<u16>
 }
 
 #[tactic(auto, unfolding(crate::specs::Table::number_among))]
-pub fn among_at(these: &[u16], at: Place, value: &Value) -> Result<u16, Flaw>
+pub fn among_at(these: &[u16], at: Place, value: &Value) -> Result<u16, Refusal<Flaw>>
     ensures { Reads (λ n. n) result (number_among these.now (spelled at) (view value.now)) }
 {
     let Some(n) = number_of(value) else {
-        return Err(Flaw::BadField(at));
+        return Err(Refusal::Fault(Flaw::BadField(at)));
     };
     match same_of(these, n) {
         Some(same) => Ok(same),
-        None => Err(Flaw::BadField(at)),
+        None => Err(Refusal::Fault(Flaw::BadField(at))),
     }
 }

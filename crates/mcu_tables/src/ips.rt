@@ -10,6 +10,7 @@ use crate::forms::{check_object, number_at, text_at};
 use crate::json::{member_of, needed};
 use crate::lists::{counted_at, texts};
 use crate::place::{Flaw, Key, Place, Spot};
+use refusal::Refusal;
 use res_base::{Items, Text};
 use res_model::{Ip, Need48};
 use serde_json::Value;
@@ -31,15 +32,15 @@ fn need48_of(word: &str) -> Option<Need48>
 }
 
 #[tactic(auto, unfolding(crate::specs::Table::clock48_form))]
-fn clock48_at(at: Place, value: &Value) -> Result<Need48, Flaw>
+fn clock48_at(at: Place, value: &Value) -> Result<Need48, Refusal<Flaw>>
     ensures { Reads (λ r. r) result (clock48_form (spelled at) (view value.now)) }
 {
     let Some(word) = value.as_str() else {
-        return Err(Flaw::BadField(at));
+        return Err(Refusal::Fault(Flaw::BadField(at)));
     };
     match need48_of(word) {
         Some(need) => Ok(need),
-        None => Err(Flaw::BadField(at)),
+        None => Err(Refusal::Fault(Flaw::BadField(at))),
     }
 }
 
@@ -50,18 +51,18 @@ fn has_ip(before: &[Ip], name: &str) -> bool
 }
 
 #[tactic(auto, unfolding(crate::specs::Table::ip_name))]
-fn name_at<'v>(before: &[Ip], at: Place, value: &'v Value) -> Result<&'v str, Flaw>
+fn name_at<'v>(before: &[Ip], at: Place, value: &'v Value) -> Result<&'v str, Refusal<Flaw>>
     ensures { Reads (λ s. s.now) result (ip_name before.now (spelled at) (view value.now)) }
 {
     let name = text_at(at, value)?;
     if has_ip(before, name) {
-        Err(Flaw::Repeated(at))
+        Err(Refusal::Fault(Flaw::Repeated(at)))
     } else {
         Ok(name)
     }
 }
 
-fn floor_at(at: Spot, found: Option<&Value>) -> Result<u64, Flaw>
+fn floor_at(at: Spot, found: Option<&Value>) -> Result<u64, Refusal<Flaw>>
     ensures { Reads (λ n. n) result (may (number_within 0 168000000) 0 (path_of at) (option_map (λ v. view v.now) found.entry)) }
 {
     match found {
@@ -70,7 +71,7 @@ fn floor_at(at: Spot, found: Option<&Value>) -> Result<u64, Flaw>
     }
 }
 
-fn marks_at(alloc: Global, at: Spot, found: Option<&Value>) -> Result<Items<Text>, Flaw>
+fn marks_at(alloc: Global, at: Spot, found: Option<&Value>) -> Result<Items<Text>, Refusal<Flaw>>
     ensures { Reads (λ v. v) result (may (list 0 16 any_text) [] (path_of at) (option_map (λ v. view v.now) found.entry)) }
 {
     match found {
@@ -80,7 +81,7 @@ fn marks_at(alloc: Global, at: Spot, found: Option<&Value>) -> Result<Items<Text
 }
 
 #[tactic(auto, unfolding(crate::specs::Table::ip))]
-fn ip_of(alloc: Global, before: &[Ip], i: usize, value: &Value) -> Result<Ip, Flaw>
+fn ip_of(alloc: Global, before: &[Ip], i: usize, value: &Value) -> Result<Ip, Refusal<Flaw>>
     ensures { Reads (λ s. s) result (ip before.now (entry_path Key.Ips i) (view value.now)) }
 {
     check_object(Place::Entry(Spot::Top(Key::Ips), i), value)?;
@@ -113,7 +114,7 @@ fn ip_of(alloc: Global, before: &[Ip], i: usize, value: &Value) -> Result<Ip, Fl
     })
 }
 
-fn each_ip(alloc: Global, values: &[Value]) -> Result<Vec<Ip>, Flaw>
+fn each_ip(alloc: Global, values: &[Value]) -> Result<Vec<Ip>, Refusal<Flaw>>
     ensures { Reads (λ v. v.items) result (entries_after ip (path_of (Spot.Top Key.Ips)) [] (map view values.now)) }
 {
     let mut found = Vec::new(alloc);
@@ -126,7 +127,7 @@ fn each_ip(alloc: Global, values: &[Value]) -> Result<Vec<Ip>, Flaw>
 
 /// The IPs of the table.
 #[tactic(auto, unfolding(crate::specs::Table::list))]
-pub fn ips_of(alloc: Global, value: &Value) -> Result<Items<Ip>, Flaw>
+pub fn ips_of(alloc: Global, value: &Value) -> Result<Items<Ip>, Refusal<Flaw>>
     ensures { Reads (λ v. v) result (list 0 64 ip (path_of (Spot.Top Key.Ips)) (view value.now)) }
 {
     let values = counted_at(Spot::Top(Key::Ips), value, 0, 64)?;

@@ -9,24 +9,25 @@ ghost use Rattle.mcu_tables.specs.declared.fault.TableFault.TheVariants as fault
 ghost use Rattle.mcu_tables.specs.Places.{spelling, spelled, path_of, Reads};
 
 use crate::place::{Flaw, Key, Place, Spot};
+use refusal::Refusal;
 use serde_json::Value;
 use std::alloc::Global;
 
 /// The value of the bytes.
 #[tactic(auto, unfolding(crate::specs::Json::json_of))]
-pub fn value_of(alloc: Global, bytes: &[u8]) -> Result<Value, Flaw>
+pub fn value_of(alloc: Global, bytes: &[u8]) -> Result<Value, Refusal<Flaw>>
     ensures { Reads (λ v. view v) result (due fault.NotJson (json_of bytes.now)) }
 {
     let Ok(text) = std::str::from_utf8(bytes) else {
-        return Err(Flaw::NotJson);
+        return Err(Refusal::Fault(Flaw::NotJson));
     };
     match Value::from_str(alloc, text) {
         Ok(value) => Ok(value),
         Err(e) => {
             if e.is_memory() {
-                Err(Flaw::Memory)
+                Err(Refusal::OutOfMemory)
             } else {
-                Err(Flaw::NotJson)
+                Err(Refusal::Fault(Flaw::NotJson))
             }
         }
     }
@@ -49,17 +50,17 @@ pub fn inside_of(value: &Value, group: Key, key: Key) -> Option<&Value>
 }
 
 /// The member, which has to be there.
-pub fn needed(found: Option<&Value>, at: Spot) -> Result<&Value, Flaw>
+pub fn needed(found: Option<&Value>, at: Spot) -> Result<&Value, Refusal<Flaw>>
     ensures { Reads (λ v. view v.now) result (due (fault.Missing (path_of at)) (option_map (λ v. view v.now) found.entry)) }
 {
     match found {
         Some(value) => Ok(value),
-        None => Err(Flaw::Missing(Place::Member(at))),
+        None => Err(Refusal::Fault(Flaw::Missing(Place::Member(at)))),
     }
 }
 
 /// A member of a member, which has to be there.
-pub fn nested(root: &Value, group: Key, key: Key) -> Result<&Value, Flaw>
+pub fn nested(root: &Value, group: Key, key: Key) -> Result<&Value, Refusal<Flaw>>
     ensures { Reads (λ v. view v.now) result (due (fault.Missing (path_of (Spot.Nested group key))) (inside (spelling group) (spelling key) (view root.now))) }
 {
     needed(inside_of(root, group, key), Spot::Nested(group, key))

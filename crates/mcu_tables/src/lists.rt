@@ -9,24 +9,30 @@ ghost use Rattle.mcu_tables.specs.Places.{spelled, path_of, Reads};
 use crate::forms::{among_at, text_at};
 use crate::json::{entries_of, number_of};
 use crate::place::{Flaw, Place, Spot};
+use refusal::Refusal;
 use res_base::{Items, Text};
 use serde_json::Value;
 use std::alloc::Global;
 
 /// The entries of a list of so many.
 #[tactic(auto, unfolding(crate::specs::Table::counted))]
-pub fn counted_at(at: Spot, value: &Value, least: usize, most: usize) -> Result<&Vec<Value>, Flaw>
+pub fn counted_at(
+    at: Spot,
+    value: &Value,
+    least: usize,
+    most: usize,
+) -> Result<&Vec<Value>, Refusal<Flaw>>
     ensures reads { Reads (λ v. map view v.now.items) result (counted least most (path_of at) (view value.now)) }
     ensures long { IfOk result (λ v. least ≤ length v.now.items) }
     ensures short { IfOk result (λ v. length v.now.items ≤ most) }
 {
     let Some(values) = entries_of(value) else {
-        return Err(Flaw::BadField(Place::Member(at)));
+        return Err(Refusal::Fault(Flaw::BadField(Place::Member(at))));
     };
     if least <= values.len() && values.len() <= most {
         Ok(values)
     } else {
-        Err(Flaw::BadField(Place::Member(at)))
+        Err(Refusal::Fault(Flaw::BadField(Place::Member(at))))
     }
 }
 
@@ -37,18 +43,18 @@ fn has_text(before: &[Text], name: &str) -> bool
 }
 
 #[tactic(auto, unfolding(crate::specs::Table::distinct_text))]
-fn distinct_at<'v>(before: &[Text], at: Place, value: &'v Value) -> Result<&'v str, Flaw>
+fn distinct_at<'v>(before: &[Text], at: Place, value: &'v Value) -> Result<&'v str, Refusal<Flaw>>
     ensures { Reads (λ s. s.now) result (distinct_text before.now (spelled at) (view value.now)) }
 {
     let name = text_at(at, value)?;
     if has_text(before, name) {
-        Err(Flaw::Repeated(at))
+        Err(Refusal::Fault(Flaw::Repeated(at)))
     } else {
         Ok(name)
     }
 }
 
-fn each_distinct(alloc: Global, at: Spot, values: &[Value]) -> Result<Vec<Text>, Flaw>
+fn each_distinct(alloc: Global, at: Spot, values: &[Value]) -> Result<Vec<Text>, Refusal<Flaw>>
     ensures { Reads (λ v. v.items) result (entries_after distinct_text (path_of at) [] (map view values.now)) }
 {
     let mut found = Vec::new(alloc);
@@ -67,7 +73,7 @@ pub fn distinct_texts(
     value: &Value,
     least: usize,
     most: usize,
-) -> Result<Items<Text>, Flaw>
+) -> Result<Items<Text>, Refusal<Flaw>>
     ensures { Reads (λ v. v) result (list least most distinct_text (path_of at) (view value.now)) }
 {
     let values = counted_at(at, value, least, most)?;
@@ -75,7 +81,7 @@ pub fn distinct_texts(
 }
 
 #[tactic(auto, unfolding(crate::specs::Table::any_text))]
-fn each_text(alloc: Global, at: Spot, values: &[Value]) -> Result<Vec<Text>, Flaw>
+fn each_text(alloc: Global, at: Spot, values: &[Value]) -> Result<Vec<Text>, Refusal<Flaw>>
     ensures { Reads (λ v. v.items) result (entries_after any_text (path_of at) [] (map view values.now)) }
 {
     let mut found = Vec::new(alloc);
@@ -88,7 +94,12 @@ fn each_text(alloc: Global, at: Spot, values: &[Value]) -> Result<Vec<Text>, Fla
 
 /// A list of texts.
 #[tactic(auto, unfolding(crate::specs::Table::list))]
-pub fn texts(alloc: Global, at: Spot, value: &Value, most: usize) -> Result<Items<Text>, Flaw>
+pub fn texts(
+    alloc: Global,
+    at: Spot,
+    value: &Value,
+    most: usize,
+) -> Result<Items<Text>, Refusal<Flaw>>
     ensures { Reads (λ v. v) result (list 0 most any_text (path_of at) (view value.now)) }
 {
     let values = counted_at(at, value, 0, most)?;
@@ -105,20 +116,20 @@ fn is_above(before: &[u64], n: u64) -> bool
 }
 
 #[tactic(auto, unfolding(crate::specs::Table::above))]
-fn above_at(before: &[u64], at: Place, value: &Value) -> Result<u64, Flaw>
+fn above_at(before: &[u64], at: Place, value: &Value) -> Result<u64, Refusal<Flaw>>
     ensures { Reads (λ n. n) result (above before.now (spelled at) (view value.now)) }
 {
     let Some(n) = number_of(value) else {
-        return Err(Flaw::BadField(at));
+        return Err(Refusal::Fault(Flaw::BadField(at)));
     };
     if is_above(before, n) {
         Ok(n)
     } else {
-        Err(Flaw::BadField(at))
+        Err(Refusal::Fault(Flaw::BadField(at)))
     }
 }
 
-fn each_above(alloc: Global, at: Spot, values: &[Value]) -> Result<Vec<u64>, Flaw>
+fn each_above(alloc: Global, at: Spot, values: &[Value]) -> Result<Vec<u64>, Refusal<Flaw>>
     ensures { Reads (λ v. v.items) result (entries_after above (path_of at) [] (map view values.now)) }
 {
     let mut found = Vec::new(alloc);
@@ -137,7 +148,7 @@ pub fn ascending(
     value: &Value,
     least: usize,
     most: usize,
-) -> Result<Items<u64>, Flaw>
+) -> Result<Items<u64>, Refusal<Flaw>>
     ensures { Reads (λ v. v) result (list least most above (path_of at) (view value.now)) }
 {
     let values = counted_at(at, value, least, most)?;
@@ -154,18 +165,23 @@ fn is_next(before: &[u16], n: u16) -> bool
 }
 
 #[tactic(auto, unfolding(crate::specs::Table::next_among))]
-fn next_at(these: &[u16], before: &[u16], at: Place, value: &Value) -> Result<u16, Flaw>
+fn next_at(these: &[u16], before: &[u16], at: Place, value: &Value) -> Result<u16, Refusal<Flaw>>
     ensures { Reads (λ n. n) result (next_among these.now before.now (spelled at) (view value.now)) }
 {
     let n = among_at(these, at, value)?;
     if is_next(before, n) {
         Ok(n)
     } else {
-        Err(Flaw::BadField(at))
+        Err(Refusal::Fault(Flaw::BadField(at)))
     }
 }
 
-fn each_among(alloc: Global, these: &[u16], at: Spot, values: &[Value]) -> Result<Vec<u16>, Flaw>
+fn each_among(
+    alloc: Global,
+    these: &[u16],
+    at: Spot,
+    values: &[Value],
+) -> Result<Vec<u16>, Refusal<Flaw>>
     ensures { Reads (λ v. v.items) result (entries_after (next_among these.now) (path_of at) [] (map view values.now)) }
 {
     let mut found = Vec::new(alloc);
@@ -183,17 +199,22 @@ fn each_among(alloc: Global, these: &[u16], at: Spot, values: &[Value]) -> Resul
 
 /// An ascending list within these numbers, with at least one.
 #[tactic(auto, unfolding(crate::specs::Table::some_among))]
-pub fn some_among(alloc: Global, these: &[u16], at: Spot, value: &Value) -> Result<Items<u16>, Flaw>
+pub fn some_among(
+    alloc: Global,
+    these: &[u16],
+    at: Spot,
+    value: &Value,
+) -> Result<Items<u16>, Refusal<Flaw>>
     ensures { Reads (λ v. v) result (some_among these.now (path_of at) (view value.now)) }
 {
     let Some(values) = entries_of(value) else {
-        return Err(Flaw::BadField(Place::Member(at)));
+        return Err(Refusal::Fault(Flaw::BadField(Place::Member(at))));
     };
     let found = each_among(alloc, these, at, values)?;
     if found.len() > 0 {
         Ok(Items::of(found))
     } else {
-        Err(Flaw::BadField(Place::Member(at)))
+        Err(Refusal::Fault(Flaw::BadField(Place::Member(at))))
     }
 }
 
@@ -205,16 +226,21 @@ fn has_one(numbers: &[u16]) -> bool
 
 /// An ascending list within these numbers, with 1 in it.
 #[tactic(auto, unfolding(crate::specs::Table::one_among))]
-pub fn one_among(alloc: Global, these: &[u16], at: Spot, value: &Value) -> Result<Items<u16>, Flaw>
+pub fn one_among(
+    alloc: Global,
+    these: &[u16],
+    at: Spot,
+    value: &Value,
+) -> Result<Items<u16>, Refusal<Flaw>>
     ensures { Reads (λ v. v) result (one_among these.now (path_of at) (view value.now)) }
 {
     let Some(values) = entries_of(value) else {
-        return Err(Flaw::BadField(Place::Member(at)));
+        return Err(Refusal::Fault(Flaw::BadField(Place::Member(at))));
     };
     let found = each_among(alloc, these, at, values)?;
     if has_one(found.as_slice()) {
         Ok(Items::of(found))
     } else {
-        Err(Flaw::BadField(Place::Member(at)))
+        Err(Refusal::Fault(Flaw::BadField(Place::Member(at))))
     }
 }

@@ -10,6 +10,7 @@ ghost use Rattle.mcu_tables.specs.Places.{spelled, path_of, Reads};
 use crate::forms::text_at;
 use crate::lists::counted_at;
 use crate::place::{Flaw, Key, Place, Spot};
+use refusal::Refusal;
 use res_base::{Items, Text};
 use res_model::Pin;
 use serde_json::Value;
@@ -71,21 +72,21 @@ fn has_pin(before: &[Pin], name: &str, port: u8, number: u8) -> bool
 }
 
 #[tactic(auto, unfolding(crate::specs::Table::pin))]
-fn pin_at(alloc: Global, before: &[Pin], at: Place, value: &Value) -> Result<Pin, Flaw>
+fn pin_at(alloc: Global, before: &[Pin], at: Place, value: &Value) -> Result<Pin, Refusal<Flaw>>
     ensures { Reads (λ p. p) result (pin before.now (spelled at) (view value.now)) }
 {
     let name = text_at(at, value)?;
     let Some((port, number)) = spot_of(name.as_bytes()) else {
-        return Err(Flaw::BadField(at));
+        return Err(Refusal::Fault(Flaw::BadField(at)));
     };
     if has_pin(before, name, port, number) {
-        return Err(Flaw::Repeated(at));
+        return Err(Refusal::Fault(Flaw::Repeated(at)));
     }
     let name = Text::copy(alloc, name)?;
     Ok(Pin { name, port, number })
 }
 
-fn each_pin(alloc: Global, values: &[Value]) -> Result<Vec<Pin>, Flaw>
+fn each_pin(alloc: Global, values: &[Value]) -> Result<Vec<Pin>, Refusal<Flaw>>
     ensures reads { Reads (λ v. v.items) result (entries_after pin (path_of (Spot.Top Key.Pins)) [] (map view values.now)) }
     ensures long { IfOk result (λ v. length v.items ≡ length values.now) }
 {
@@ -100,7 +101,7 @@ fn each_pin(alloc: Global, values: &[Value]) -> Result<Vec<Pin>, Flaw>
 
 /// The pins of the table.
 #[tactic(auto, unfolding(crate::specs::Table::list))]
-pub fn pins_of(alloc: Global, value: &Value) -> Result<Items<Pin>, Flaw>
+pub fn pins_of(alloc: Global, value: &Value) -> Result<Items<Pin>, Refusal<Flaw>>
     ensures reads { Reads (λ v. v) result (list 0 144 pin (path_of (Spot.Top Key.Pins)) (view value.now)) }
     ensures few { IfOk result (λ v. length v ≤ 144) }
 {

@@ -1,11 +1,12 @@
 //! Where a fault is in a table, and how its path is spelled.
-ghost use Rattle.std.specs.Prelude.{◌≡◌, ◌⊎◌, ◌++◌, [], ◌∷◌, decimal, IfOk, OnOk, string_bytes};
+ghost use Rattle.std.specs.Prelude.{◌≡◌, ◌++◌, [], ◌∷◌, decimal, IfOk, OnOk, string_bytes};
 ghost use Rattle.mcu_tables.specs.Table.{below};
 ghost use Rattle.mcu_tables.specs.Places.{spelling, path_of, spelled, fault_of};
 
 use crate::fault::TableFault;
 use res_base::{OutOfMemory, Text};
-use std::alloc::{AllocError, AllocFailed, Global};
+use res_model::Limit;
+use std::alloc::Global;
 
 /// The name of a member of the table.
 #[derive(Clone, Copy)]
@@ -140,8 +141,7 @@ pub enum Flaw {
     Missing(Place),
     BadField(Place),
     Repeated(Place),
-    ResetIllegal(u8),
-    Memory,
+    ResetIllegal(Limit),
 }
 
 fn put_key(path: &mut String, key: Key) -> Result<(), OutOfMemory>
@@ -199,7 +199,8 @@ fn path_text(alloc: Global, at: Place) -> Result<Text, OutOfMemory>
     Text::copy(alloc, path.as_str())
 }
 
-fn fault_at(alloc: Global, flaw: Flaw) -> Result<TableFault, OutOfMemory>
+/// The fault with its path.
+pub fn spelled_fault(alloc: Global, flaw: Flaw) -> Result<TableFault, OutOfMemory>
     ensures { IfOk result (λ f. f ≡ fault_of flaw) }
 {
     match flaw {
@@ -214,49 +215,5 @@ fn fault_at(alloc: Global, flaw: Flaw) -> Result<TableFault, OutOfMemory>
             path: path_text(alloc, at)?,
         }),
         Flaw::ResetIllegal(limit) => Ok(TableFault::ResetIllegal { limit }),
-        Flaw::Memory => Ok(TableFault::Memory),
-    }
-}
-
-/// The fault with its path, or want of memory.
-pub fn spelled_fault(alloc: Global, flaw: Flaw) -> TableFault
-    ensures { (result ≡ TableFault.Memory) ⊎ (result ≡ fault_of flaw) }
-{
-    match fault_at(alloc, flaw) {
-        Ok(fault) => fault,
-        Err(OutOfMemory) => TableFault::Memory,
-    }
-}
-
-impl From<OutOfMemory> for Flaw {
-    ghost use Rattle.std.specs.Prelude.{◌≡◌};
-    ghost use Rattle.mcu_tables.specs.declared.place.Flaw.TheVariants.{Memory};
-
-    ghost from_gives = { λ _ e. e ≡ Memory };
-
-    fn from(_e: OutOfMemory) -> Flaw {
-        Flaw::Memory
-    }
-}
-
-impl From<AllocError> for Flaw {
-    ghost use Rattle.std.specs.Prelude.{◌≡◌};
-    ghost use Rattle.mcu_tables.specs.declared.place.Flaw.TheVariants.{Memory};
-
-    ghost from_gives = { λ _ e. e ≡ Memory };
-
-    fn from(_e: AllocError) -> Flaw {
-        Flaw::Memory
-    }
-}
-
-impl<T: Drop> From<AllocFailed<T>> for Flaw {
-    ghost use Rattle.std.specs.Prelude.{◌≡◌};
-    ghost use Rattle.mcu_tables.specs.declared.place.Flaw.TheVariants.{Memory};
-
-    ghost from_gives = { λ _ e. e ≡ Memory };
-
-    fn from(_e: AllocFailed<T>) -> Flaw {
-        Flaw::Memory
     }
 }

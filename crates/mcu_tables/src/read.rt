@@ -1,7 +1,7 @@
 //! A table, path by path.
 ghost use Rattle.std.specs.Prelude.{◌≡◌, ◌≤◌, ◌<◌, ℕ, List, codes, length, slice_index, IfOk};
 ghost use Rattle.res_base.specs.Lists.{Each};
-ghost use Rattle.mcu_tables.specs.TableFaults.{Gives};
+ghost use Rattle.refusal.specs.Refusals.{Gives};
 ghost use Rattle.res_model.specs.Valid.{IsValid};
 ghost use Rattle.mcu_tables.specs.declared.fault.TableFault.TheVariants as fault;
 ghost use Rattle.serde_json.specs.Find.{get};
@@ -22,19 +22,20 @@ use crate::place::{Flaw, Key, Place, Spot, spelled_fault};
 use crate::reset::reset_fault;
 use crate::scales::scales_of;
 use crate::signals::signals_of;
+use refusal::Refusal;
 use res_base::{Items, Text};
 use res_model::{FlashRange, Ip, Pin, Scale, TableParts, TableSignal, Tables};
 use serde_json::Value;
 use std::alloc::Global;
 
 /// A member of the table, which has to be there.
-fn member(root: &Value, key: Key) -> Result<&Value, Flaw>
+fn member(root: &Value, key: Key) -> Result<&Value, Refusal<Flaw>>
     ensures { Reads (λ v. view v.now) result (due (fault.Missing (path_of (Spot.Top key))) (get (spelling key) (view root.now))) }
 {
     needed(member_of(root, key), Spot::Top(key))
 }
 
-fn version(root: &Value) -> Result<u8, Flaw>
+fn version(root: &Value) -> Result<u8, Refusal<Flaw>>
     ensures { Reads (λ n. n) result (top (number_within 1 2) (codes "version") (view root.now)) }
 {
     let value = member(root, Key::Version)?;
@@ -42,14 +43,14 @@ fn version(root: &Value) -> Result<u8, Flaw>
     Ok(version as u8)
 }
 
-fn names(alloc: Global, root: &Value) -> Result<Items<Text>, Flaw>
+fn names(alloc: Global, root: &Value) -> Result<Items<Text>, Refusal<Flaw>>
     ensures { Reads (λ v. v) result (top (list 1 64 distinct_text) (codes "names") (view root.now)) }
 {
     let value = member(root, Key::Names)?;
     distinct_texts(alloc, Spot::Top(Key::Names), value, 1, 64)
 }
 
-fn top_text(alloc: Global, root: &Value, key: Key) -> Result<Text, Flaw>
+fn top_text(alloc: Global, root: &Value, key: Key) -> Result<Text, Refusal<Flaw>>
     ensures { Reads (λ t. t) result (top text (spelling key) (view root.now)) }
 {
     let value = member(root, key)?;
@@ -57,7 +58,7 @@ fn top_text(alloc: Global, root: &Value, key: Key) -> Result<Text, Flaw>
     Ok(Text::copy(alloc, text)?)
 }
 
-fn pins(alloc: Global, root: &Value) -> Result<Items<Pin>, Flaw>
+fn pins(alloc: Global, root: &Value) -> Result<Items<Pin>, Refusal<Flaw>>
     ensures reads { Reads (λ v. v) result (top (list 0 144 pin) (codes "pins") (view root.now)) }
     ensures few { IfOk result (λ v. length v ≤ 144) }
 {
@@ -65,7 +66,7 @@ fn pins(alloc: Global, root: &Value) -> Result<Items<Pin>, Flaw>
     pins_of(alloc, value)
 }
 
-fn signals(alloc: Global, pins: &[Pin], root: &Value) -> Result<Items<TableSignal>, Flaw>
+fn signals(alloc: Global, pins: &[Pin], root: &Value) -> Result<Items<TableSignal>, Refusal<Flaw>>
     requires { length pins.now ≤ 144 }
     ensures { Reads (λ v. v) result (top (list 0 2000 (signal pins.now)) (codes "signals") (view root.now)) }
 {
@@ -73,7 +74,7 @@ fn signals(alloc: Global, pins: &[Pin], root: &Value) -> Result<Items<TableSigna
     signals_of(alloc, pins, value)
 }
 
-fn ips(alloc: Global, root: &Value) -> Result<Items<Ip>, Flaw>
+fn ips(alloc: Global, root: &Value) -> Result<Items<Ip>, Refusal<Flaw>>
     ensures { Reads (λ v. v) result (top (list 0 64 ip) (codes "ips") (view root.now)) }
 {
     let value = member(root, Key::Ips)?;
@@ -82,7 +83,7 @@ fn ips(alloc: Global, root: &Value) -> Result<Items<Ip>, Flaw>
 
 /// The names of the signals of the oscillator's pins.
 #[tactic(auto, unfolding(crate::specs::Table::hse_names))]
-fn hse_names(alloc: Global, root: &Value) -> Result<(Text, Text), Flaw>
+fn hse_names(alloc: Global, root: &Value) -> Result<(Text, Text), Refusal<Flaw>>
     ensures { Reads (λ p. p) result (hse_names (view root.now)) }
 {
     let hse_in = top_text(alloc, root, Key::HseIn)?;
@@ -90,7 +91,7 @@ fn hse_names(alloc: Global, root: &Value) -> Result<(Text, Text), Flaw>
     Ok((hse_in, hse_out))
 }
 
-fn scales(alloc: Global, vos: &[u16], root: &Value) -> Result<Items<Scale>, Flaw>
+fn scales(alloc: Global, vos: &[u16], root: &Value) -> Result<Items<Scale>, Refusal<Flaw>>
     requires small { (k : ℕ) → k < length vos.now → slice_index vos.now k < 256 }
     ensures { Reads (λ v. v) result (top (scales vos.now) (codes "scales") (view root.now)) }
 {
@@ -98,7 +99,7 @@ fn scales(alloc: Global, vos: &[u16], root: &Value) -> Result<Items<Scale>, Flaw
     scales_of(alloc, vos, value)
 }
 
-fn flash(alloc: Global, root: &Value) -> Result<Items<FlashRange>, Flaw>
+fn flash(alloc: Global, root: &Value) -> Result<Items<FlashRange>, Refusal<Flaw>>
     ensures { Reads (λ v. v) result (top (list 0 16 flash_range) (codes "flash") (view root.now)) }
 {
     let value = member(root, Key::Flash)?;
@@ -111,7 +112,7 @@ fn supply(
     alloc: Global,
     vos: &[u16],
     root: &Value,
-) -> Result<(Items<Scale>, Items<FlashRange>), Flaw>
+) -> Result<(Items<Scale>, Items<FlashRange>), Refusal<Flaw>>
     requires small { (k : ℕ) → k < length vos.now → slice_index vos.now k < 256 }
     ensures { Reads (λ p. p) result (supply vos.now (view root.now)) }
 {
@@ -121,17 +122,17 @@ fn supply(
 }
 
 #[tactic(auto, unfolding(crate::specs::Table::legal))]
-fn legal(parts: TableParts) -> Result<TableParts, Flaw>
+fn legal(parts: TableParts) -> Result<TableParts, Refusal<Flaw>>
     ensures { Reads (λ t. t) result (legal parts) }
 {
     match reset_fault(&parts) {
-        Some(limit) => Err(Flaw::ResetIllegal(limit)),
+        Some(limit) => Err(Refusal::Fault(Flaw::ResetIllegal(limit))),
         None => Ok(parts),
     }
 }
 
 #[tactic(auto, unfolding(crate::specs::Table::table))]
-fn table(alloc: Global, root: &Value) -> Result<TableParts, Flaw>
+fn table(alloc: Global, root: &Value) -> Result<TableParts, Refusal<Flaw>>
     ensures { Reads (λ t. t) result (table (view root.now)) }
 {
     let version = version(root)?;
@@ -165,7 +166,7 @@ fn table(alloc: Global, root: &Value) -> Result<TableParts, Flaw>
 }
 
 #[tactic(auto, unfolding(crate::specs::Table::tables_of))]
-fn parts_of(alloc: Global, bytes: &[u8]) -> Result<TableParts, Flaw>
+fn parts_of(alloc: Global, bytes: &[u8]) -> Result<TableParts, Refusal<Flaw>>
     ensures { Reads (λ t. t) result (tables_of bytes.now) }
 {
     let root = value_of(alloc, bytes)?;
@@ -174,11 +175,12 @@ fn parts_of(alloc: Global, bytes: &[u8]) -> Result<TableParts, Flaw>
 
 /// Reads a table from its JSON text. The fault is the first in the order of the table form, with its
 /// path, as in `/clock/hpre/0`.
-pub fn read_tables(alloc: Global, text: &[u8]) -> Result<Tables, TableFault>
+pub fn read_tables(alloc: Global, text: &[u8]) -> Result<Tables, Refusal<TableFault>>
     ensures { Gives (λ t. t) result (tables_of text.now) }
 {
     match parts_of(alloc, text) {
         Ok(parts) => Ok(Tables::of(alloc, parts)?),
-        Err(flaw) => Err(spelled_fault(alloc, flaw)),
+        Err(Refusal::Fault(flaw)) => Err(Refusal::Fault(spelled_fault(alloc, flaw)?)),
+        Err(Refusal::OutOfMemory) => Err(Refusal::OutOfMemory),
     }
 }

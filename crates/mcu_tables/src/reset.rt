@@ -41,21 +41,21 @@ fn has_low_row(ranges: &[FlashRange]) -> bool
 
 /// The least limit that the state after reset would break.
 #[tactic(auto, unfolding(crate::specs::Table::reset_fault))]
-pub fn reset_fault(parts: &TableParts) -> Option<u8>
+pub fn reset_fault(parts: &TableParts) -> Option<Limit>
     ensures { result ≡ reset_fault parts.now }
 {
     let plain = speeds_at(parts, 1);
     let over = speeds_at(parts, 4);
     if is_low(plain.sysclk, over.sysclk) {
-        Some(Limit::Sysclk.number())
+        Some(Limit::Sysclk)
     } else if has_low_scale(parts.scales.as_slice()) {
-        Some(Limit::Hclk.number())
+        Some(Limit::Hclk)
     } else if is_low(plain.pclk1, over.pclk1) {
-        Some(Limit::Pclk1.number())
+        Some(Limit::Pclk1)
     } else if is_low(plain.pclk2, over.pclk2) {
-        Some(Limit::Pclk2.number())
+        Some(Limit::Pclk2)
     } else if has_low_row(parts.flash.as_slice()) {
-        Some(Limit::FlashRow.number())
+        Some(Limit::FlashRow)
     } else {
         None
     }

@@ -10,6 +10,7 @@ use crate::json::{member_of, needed, two_of, word_of};
 use crate::lists::counted_at;
 use crate::pins::place_of;
 use crate::place::{Flaw, Key, Place, Spot};
+use refusal::Refusal;
 use res_base::Items;
 use res_model::{Mode, Pin, PinUse, Role};
 use serde_json::Value;
@@ -34,29 +35,39 @@ fn has_row(before: &[PinUse], pin: u8) -> bool
     before.iter().any(|row| row.pin == pin)
 }
 
-fn row_at(before: &[PinUse], at: Place, pin: Option<u8>, mode: Mode) -> Result<PinUse, Flaw>
+fn row_at(
+    before: &[PinUse],
+    at: Place,
+    pin: Option<u8>,
+    mode: Mode,
+) -> Result<PinUse, Refusal<Flaw>>
     ensures { Reads (λ u. u) result (row before.now (spelled at) pin mode) }
 {
     let Some(pin) = pin else {
-        return Err(Flaw::BadField(at));
+        return Err(Refusal::Fault(Flaw::BadField(at)));
     };
     if has_row(before, pin) {
-        Err(Flaw::Repeated(at))
+        Err(Refusal::Fault(Flaw::Repeated(at)))
     } else {
         Ok(PinUse { pin, mode })
     }
 }
 
 #[tactic(auto, unfolding(crate::specs::Table::alt_row))]
-fn alt_row(pins: &[Pin], before: &[PinUse], at: Place, value: &Value) -> Result<PinUse, Flaw>
+fn alt_row(
+    pins: &[Pin],
+    before: &[PinUse],
+    at: Place,
+    value: &Value,
+) -> Result<PinUse, Refusal<Flaw>>
     requires { length pins.now ≤ 144 }
     ensures { Reads (λ u. u) result (alt_row pins.now before.now (spelled at) (view value.now)) }
 {
     let Some((first, second)) = two_of(value) else {
-        return Err(Flaw::BadField(at));
+        return Err(Refusal::Fault(Flaw::BadField(at)));
     };
     let Some(pin) = pin_named(pins, first) else {
-        return Err(Flaw::BadField(at));
+        return Err(Refusal::Fault(Flaw::BadField(at)));
     };
     let function = number_at(0, 15, at, second)?;
     row_at(before, at, Some(pin), Mode::Alt(function as u8))
@@ -67,7 +78,7 @@ fn each_alt_row(
     pins: &[Pin],
     at: Spot,
     values: &[Value],
-) -> Result<Vec<PinUse>, Flaw>
+) -> Result<Vec<PinUse>, Refusal<Flaw>>
     requires { length pins.now ≤ 144 }
     ensures { Reads (λ v. v.items) result (entries_after (alt_row pins.now) (path_of at) [] (map view values.now)) }
 {
@@ -80,7 +91,12 @@ fn each_alt_row(
 }
 
 #[tactic(auto, unfolding(crate::specs::Table::list))]
-fn alt_rows(alloc: Global, pins: &[Pin], at: Spot, value: &Value) -> Result<Items<PinUse>, Flaw>
+fn alt_rows(
+    alloc: Global,
+    pins: &[Pin],
+    at: Spot,
+    value: &Value,
+) -> Result<Items<PinUse>, Refusal<Flaw>>
     requires { length pins.now ≤ 144 }
     ensures { Reads (λ v. v) result (list 1 16 (alt_row pins.now) (path_of at) (view value.now)) }
 {
@@ -95,7 +111,7 @@ fn pin_row(
     before: &[PinUse],
     at: Place,
     value: &Value,
-) -> Result<PinUse, Flaw>
+) -> Result<PinUse, Refusal<Flaw>>
     requires { length pins.now ≤ 144 }
     ensures { Reads (λ u. u) result (pin_row pins.now mode before.now (spelled at) (view value.now)) }
 {
@@ -108,7 +124,7 @@ fn each_pin_row(
     mode: Mode,
     at: Spot,
     values: &[Value],
-) -> Result<Vec<PinUse>, Flaw>
+) -> Result<Vec<PinUse>, Refusal<Flaw>>
     requires { length pins.now ≤ 144 }
     ensures { Reads (λ v. v.items) result (entries_after (pin_row pins.now mode) (path_of at) [] (map view values.now)) }
 {
@@ -134,7 +150,7 @@ fn pin_rows(
     least: usize,
     at: Spot,
     value: &Value,
-) -> Result<Items<PinUse>, Flaw>
+) -> Result<Items<PinUse>, Refusal<Flaw>>
     requires { length pins.now ≤ 144 }
     ensures { Reads (λ v. v) result (list least 16 (pin_row pins.now mode) (path_of at) (view value.now)) }
 {
@@ -147,7 +163,7 @@ fn analog_rows(
     pins: &[Pin],
     at: Spot,
     found: Option<&Value>,
-) -> Result<Items<PinUse>, Flaw>
+) -> Result<Items<PinUse>, Refusal<Flaw>>
     requires { length pins.now ≤ 144 }
     ensures { Reads (λ v. v) result (may (list 0 16 (pin_row pins.now Mode.Analog)) [] (path_of at) (option_map (λ v. view v.now) found.entry)) }
 {
@@ -158,11 +174,11 @@ fn analog_rows(
 }
 
 #[tactic(auto, unfolding(crate::specs::Table::no_rows))]
-fn no_rows(alloc: Global, at: Spot, found: Option<&Value>) -> Result<Items<PinUse>, Flaw>
+fn no_rows(alloc: Global, at: Spot, found: Option<&Value>) -> Result<Items<PinUse>, Refusal<Flaw>>
     ensures { Reads (λ v. v) result (may no_rows [] (path_of at) (option_map (λ v. view v.now) found.entry)) }
 {
     match found {
-        Some(_) => Err(Flaw::BadField(Place::Member(at))),
+        Some(_) => Err(Refusal::Fault(Flaw::BadField(Place::Member(at)))),
         None => Ok(Items::of(Vec::new(alloc))),
     }
 }
@@ -175,7 +191,7 @@ pub fn rows_of(
     role: Role,
     i: usize,
     value: &Value,
-) -> Result<Items<PinUse>, Flaw>
+) -> Result<Items<PinUse>, Refusal<Flaw>>
     requires { length pins.now ≤ 144 }
     ensures { Reads (λ v. v) result (rows pins.now role (entry_path Key.Signals i) (view value.now)) }
 {

@@ -9,6 +9,7 @@ use crate::forms::{check_object, number_at};
 use crate::json::{member_of, needed};
 use crate::lists::counted_at;
 use crate::place::{Flaw, Key, Place, Spot};
+use refusal::Refusal;
 use res_base::Items;
 use res_model::{Scale, has_over};
 use serde_json::Value;
@@ -23,7 +24,7 @@ fn widest_hclk(step: u16) -> u64
 
 /// The power step that is due after those before it.
 #[tactic(auto, unfolding(crate::specs::Table::scale))]
-fn scale_at(vos: &[u16], before: &[Scale], value: &Value) -> Result<Scale, Flaw>
+fn scale_at(vos: &[u16], before: &[Scale], value: &Value) -> Result<Scale, Refusal<Flaw>>
     requires due { length before.now < length vos.now }
     requires small { slice_index vos.now (length before.now) < 256 }
     ensures { Reads (λ s. s) result (scale vos.now before.now (entry_path Key.Scales (length before.now)) (view value.now)) }
@@ -51,7 +52,7 @@ fn scale_at(vos: &[u16], before: &[Scale], value: &Value) -> Result<Scale, Flaw>
     })
 }
 
-fn each_scale(alloc: Global, vos: &[u16], values: &[Value]) -> Result<Vec<Scale>, Flaw>
+fn each_scale(alloc: Global, vos: &[u16], values: &[Value]) -> Result<Vec<Scale>, Refusal<Flaw>>
     requires same { length values.now ≡ length vos.now }
     requires small { (k : ℕ) → k < length vos.now → slice_index vos.now k < 256 }
     ensures { Reads (λ v. v.items) result (entries_after (scale vos.now) (path_of (Spot.Top Key.Scales)) [] (map view values.now)) }
@@ -66,7 +67,7 @@ fn each_scale(alloc: Global, vos: &[u16], values: &[Value]) -> Result<Vec<Scale>
 
 /// The power steps of the table with their greatest HCLK, one for each of the clock's.
 #[tactic(auto, unfolding(crate::specs::Table::list))]
-pub fn scales_of(alloc: Global, vos: &[u16], value: &Value) -> Result<Items<Scale>, Flaw>
+pub fn scales_of(alloc: Global, vos: &[u16], value: &Value) -> Result<Items<Scale>, Refusal<Flaw>>
     requires small { (k : ℕ) → k < length vos.now → slice_index vos.now k < 256 }
     ensures { Reads (λ v. v) result (scales vos.now (path_of (Spot.Top Key.Scales)) (view value.now)) }
 {

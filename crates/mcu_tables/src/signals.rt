@@ -12,6 +12,7 @@ use crate::json::{member_of, needed};
 use crate::lists::counted_at;
 use crate::place::{Flaw, Key, Place, Spot};
 use crate::rows::rows_of;
+use refusal::Refusal;
 use res_base::{Items, Text};
 use res_model::{Pin, Role, TableSignal};
 use serde_json::Value;
@@ -40,25 +41,25 @@ fn role_of(word: &str) -> Option<Role>
 }
 
 #[tactic(auto, unfolding(crate::specs::Table::use_form))]
-fn role_at(at: Place, value: &Value) -> Result<Role, Flaw>
+fn role_at(at: Place, value: &Value) -> Result<Role, Refusal<Flaw>>
     ensures { Reads (λ r. r) result (use_form (spelled at) (view value.now)) }
 {
     let Some(word) = value.as_str() else {
-        return Err(Flaw::BadField(at));
+        return Err(Refusal::Fault(Flaw::BadField(at)));
     };
     match role_of(word) {
         Some(role) => Ok(role),
-        None => Err(Flaw::BadField(at)),
+        None => Err(Refusal::Fault(Flaw::BadField(at))),
     }
 }
 
 #[tactic(auto, unfolding(crate::specs::Table::real_name))]
-fn real_name_at<'v>(at: Place, value: &'v Value) -> Result<&'v str, Flaw>
+fn real_name_at<'v>(at: Place, value: &'v Value) -> Result<&'v str, Refusal<Flaw>>
     ensures { Reads (λ s. s.now) result (real_name (spelled at) (view value.now)) }
 {
     let name = text_at(at, value)?;
     if name == "-" {
-        Err(Flaw::BadField(at))
+        Err(Refusal::Fault(Flaw::BadField(at)))
     } else {
         Ok(name)
     }
@@ -70,7 +71,7 @@ fn name_of<'v>(
     before: &[TableSignal],
     seen: &BTreeMap<String, ()>,
     value: &'v Value,
-) -> Result<&'v str, Flaw>
+) -> Result<&'v str, Refusal<Flaw>>
     requires { AreSeen before.now seen.now }
     ensures { Reads (λ s. s.now) result (member (signal_name before.now) (entry_path Key.Signals (length before.now)) (codes "name") (view value.now)) }
 {
@@ -78,14 +79,14 @@ fn name_of<'v>(
     let value = needed(member_of(value, Key::Name), at)?;
     let name = real_name_at(Place::Member(at), value)?;
     if seen.contains_key(name) {
-        Err(Flaw::Repeated(Place::Member(at)))
+        Err(Refusal::Fault(Flaw::Repeated(Place::Member(at))))
     } else {
         Ok(name)
     }
 }
 
 #[tactic(auto, unfolding(crate::specs::Table::some_text))]
-fn ip_at(alloc: Global, at: Spot, found: Option<&Value>) -> Result<Option<Text>, Flaw>
+fn ip_at(alloc: Global, at: Spot, found: Option<&Value>) -> Result<Option<Text>, Refusal<Flaw>>
     ensures { Reads (λ o. o) result (may some_text None (path_of at) (option_map (λ v. view v.now) found.entry)) }
 {
     match found {
@@ -94,7 +95,7 @@ fn ip_at(alloc: Global, at: Spot, found: Option<&Value>) -> Result<Option<Text>,
     }
 }
 
-fn drain_at(at: Spot, found: Option<&Value>) -> Result<bool, Flaw>
+fn drain_at(at: Spot, found: Option<&Value>) -> Result<bool, Refusal<Flaw>>
     ensures { Reads (λ b. b) result (may flag false (path_of at) (option_map (λ v. view v.now) found.entry)) }
 {
     match found {
@@ -110,7 +111,7 @@ fn signal_at(
     before: &[TableSignal],
     seen: &BTreeMap<String, ()>,
     value: &Value,
-) -> Result<TableSignal, Flaw>
+) -> Result<TableSignal, Refusal<Flaw>>
     requires few { length pins.now ≤ 144 }
     requires seen { AreSeen before.now seen.now }
     ensures { Reads (λ s. s) result (signal pins.now before.now (entry_path Key.Signals (length before.now)) (view value.now)) }
@@ -140,7 +141,11 @@ fn signal_at(
     })
 }
 
-fn each_signal(alloc: Global, pins: &[Pin], values: &[Value]) -> Result<Vec<TableSignal>, Flaw>
+fn each_signal(
+    alloc: Global,
+    pins: &[Pin],
+    values: &[Value],
+) -> Result<Vec<TableSignal>, Refusal<Flaw>>
     requires { length pins.now ≤ 144 }
     ensures { Reads (λ v. v.items) result (entries_after (signal pins.now) (path_of (Spot.Top Key.Signals)) [] (map view values.now)) }
 {
@@ -156,7 +161,11 @@ fn each_signal(alloc: Global, pins: &[Pin], values: &[Value]) -> Result<Vec<Tabl
 
 /// The signals of the table.
 #[tactic(auto, unfolding(crate::specs::Table::list))]
-pub fn signals_of(alloc: Global, pins: &[Pin], value: &Value) -> Result<Items<TableSignal>, Flaw>
+pub fn signals_of(
+    alloc: Global,
+    pins: &[Pin],
+    value: &Value,
+) -> Result<Items<TableSignal>, Refusal<Flaw>>
     requires { length pins.now ≤ 144 }
     ensures { Reads (λ v. v) result (list 0 2000 (signal pins.now) (path_of (Spot.Top Key.Signals)) (view value.now)) }
 {

@@ -4,7 +4,7 @@ use Rattle.std.specs.List.{list_all, list_any}
 use Rattle.res_base.specs.Lists.{Each, Member}
 use Rattle.choice_rank.specs.declared.variable.VarShape.{VarShape}
 use Rattle.choice_rank.specs.declared.shape.ShapeFault.{ShapeFault}
-use Rattle.choice_rank.specs.declared.shape.ShapeFault.TheVariants.{TooWide, Memory}
+use Rattle.choice_rank.specs.declared.shape.ShapeFault.TheVariants.{TooWide}
 use Rattle.choice_rank.specs.Choices.{IsNarrow, IsFirstWide, IsShape}
 use Rattle.res_model.specs.declared.opts.Opts.{Opts}
 use Rattle.res_model.specs.declared.project.Project.{Project}
@@ -55,10 +55,9 @@ abbrev pub AreHomesDue : TableParts → Project → Opts → Part → Type 0
 AreHomesDue t p opts PinsOnly = Unit {0}
 AreHomesDue t p opts Whole = fixes_clock opts.free ≡ true → all_within (domain_tests t.clock) p.clock ≡ Ok tt
 
--- a shape that is not narrow is refused with its first wide variable; memory may always run out
+-- a shape that is not narrow is refused with its first wide variable
 abbrev pub IsRefused : List VarShape → ShapeFault → Type 0
 IsRefused vs (TooWide variable) = (¬ IsNarrow vs) × IsFirstWide vs variable
-IsRefused vs Memory = Unit {0}
 
 -- each variable has a position for each of its values
 abbrev pub HaveValues : {X : Type 0} → List VarShape → List (List X) → Type 0

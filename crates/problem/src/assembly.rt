@@ -1,6 +1,7 @@
 //! A problem, from a table, a project and options.
 ghost use Rattle.std.specs.Prelude.{◌≡◌, ◌≤◌, ◌<◌, ◌^◌, true, Ok, length, IfOk, IfErr, OnOk};
 ghost use Rattle.res_base.specs.Lists.{Each};
+ghost use Rattle.refusal.specs.Refusals.{IfFault};
 ghost use Rattle.choice_rank.specs.Choices.{IsNarrow, HasPositions, HasSmallSizes};
 ghost use Rattle.pin_rules.specs.Sizes.{IsSized};
 ghost use Rattle.res_model.specs.Placed.{IsPlaced};
@@ -14,6 +15,7 @@ use crate::parts::{Part, Problem, ProblemParts};
 use crate::pins::{pin_values, push_pin_variables};
 use choice_rank::{Shape, ShapeFault, VarShape};
 use ioc_project::facts;
+use refusal::Refusal;
 use res_base::{Items, OutOfMemory};
 use res_model::{Free, Home, Opts, PinUse, Project, Tables};
 use std::alloc::Global;
@@ -137,19 +139,19 @@ pub fn build(
     p: Project,
     opts: &Opts,
     part: Part,
-) -> Result<Problem, ShapeFault>
+) -> Result<Problem, Refusal<ShapeFault>>
     requires few { length p.signals ≤ 160 }
     requires placed { Each (IsPlaced t) p.signals }
     requires hertz { p.hse_hz < 2 ^ 32 }
     requires homes { AreHomesDue t p opts.now part }
     ensures problem { IfOk result (λ q. q ≡ problem_of t p opts.now part) }
     ensures narrow { OnOk result (IsNarrow (shape_of t p opts.now part)) }
-    ensures refused { IfErr result (IsRefused (shape_of t p opts.now part)) }
+    ensures refused { IfErr result (λ e. IfFault e (IsRefused (shape_of t p opts.now part))) }
 {
     are_sized(&t, &p, opts, part);
     let facts = facts(&t, &p, opts);
     let Ok(found) = variables(alloc, &t, &p, opts, part) else {
-        return Err(ShapeFault::Memory);
+        return Err(Refusal::OutOfMemory);
     };
     let Made { shape, clock, uses } = found;
     let shape = Shape::new(alloc, shape)?;
@@ -162,4 +164,13 @@ pub fn build(
         facts,
         tables: t,
     }))
+}
+
+/// The first variable with which ranks would not fit.
+pub fn wide_variable(fault: ShapeFault) -> u16
+    ensures { fault ≡ ShapeFault.TooWide result }
+{
+    match fault {
+        ShapeFault::TooWide { variable } => variable,
+    }
 }

@@ -8,6 +8,6 @@ mod laws;
 mod parts;
 mod pins;
 
-pub use assembly::build;
+pub use assembly::{build, wide_variable};
 pub use laws::{clocks_are_in_range, meets_is_every_limit};
 pub use parts::{Part, Problem, ProblemParts};

@@ -9,6 +9,7 @@ use ioc_project::read_project;
 use ioc_text::{Ioc, read_ioc};
 use mcu_tables::{Tables, read_tables};
 use problem::{Part, Problem, build};
+use refusal::Refusal;
 use res_base::{Items, OutOfMemory, Text};
 use res_model::{ClockChoice, Free, Mode, Opts, PinUse, Project, Src};
 use std::alloc::Global;
@@ -65,7 +66,7 @@ fn built(
     p: Project,
     opts: &Opts,
     part: Part,
-) -> Result<Problem, ShapeFault>
+) -> Result<Problem, Refusal<ShapeFault>>
     requires read { IsRead t opts.now true p }
     requires hertz { p.hse_hz < 2 ^ 32 }
 {
@@ -82,7 +83,7 @@ fn with_hertz(
     p: Project,
     opts: &Opts,
     part: Part,
-) -> Option<Result<Problem, ShapeFault>>
+) -> Option<Result<Problem, Refusal<ShapeFault>>>
     requires { IsRead t opts.now true p }
 {
     if p.hse_hz < 4_294_967_296 {
@@ -99,7 +100,7 @@ fn of_lines(
     lines: &Ioc,
     opts: &Opts,
     part: Part,
-) -> Option<Result<Problem, ShapeFault>> {
+) -> Option<Result<Problem, Refusal<ShapeFault>>> {
     match read_project(alloc, &t, lines, opts, true) {
         Ok(p) => with_hertz(alloc, t, p, opts, part),
         Err(_) => None,
@@ -107,7 +108,7 @@ fn of_lines(
 }
 
 /// The problem of so many needs, or why there is none.
-fn made(alloc: Global, count: usize, part: Part) -> Option<Result<Problem, ShapeFault>> {
+fn made(alloc: Global, count: usize, part: Part) -> Option<Result<Problem, Refusal<ShapeFault>>> {
     let opts = options(alloc, count).ok()?;
     let ioc = ioc(alloc)?;
     of_lines(alloc, tables(alloc)?, &ioc, &opts, part)
@@ -130,7 +131,7 @@ fn choice(alloc: Global, p: &Problem, rank: u64) -> Result<Vec<u16>, OutOfMemory
 /// Sixty-three of them have 2^63 choices, which cost nothing, so all their ranks are below 2^63.
 fn sixty_four_variables_of_two_values_are_too_wide(alloc: Global) -> bool {
     match made(alloc, 64, Part::PinsOnly) {
-        Some(Err(ShapeFault::TooWide { variable })) => variable == 63,
+        Some(Err(Refusal::Fault(ShapeFault::TooWide { variable }))) => variable == 63,
         _ => false,
     }
 }

@@ -8,6 +8,7 @@ use answers::Answer;
 use ioc_project::read_project;
 use ioc_text::{Ioc, read_ioc};
 use mcu_tables::read_tables;
+use refusal::Refusal;
 use res_base::OutOfMemory;
 use res_model::{Opts, Project, Tables};
 use std::alloc::Global;
@@ -31,10 +32,11 @@ fn open_lines(
 {
     match read_project(alloc, &tables, ioc, opts, clocks) {
         Ok(project) => Ok(Opened::Project { tables, project }),
-        Err(fault) => {
+        Err(Refusal::Fault(fault)) => {
             let answer = refused_project(alloc, fault)?;
             Ok(Opened::Refused(answer))
         }
+        Err(Refusal::OutOfMemory) => Err(OutOfMemory),
     }
 }
 
@@ -51,10 +53,11 @@ fn open_text(
 {
     match read_ioc(alloc, text) {
         Ok(ioc) => open_lines(alloc, tables, &ioc, opts, clocks),
-        Err(fault) => {
+        Err(Refusal::Fault(fault)) => {
             let answer = refused_text(alloc, fault)?;
             Ok(Opened::Refused(answer))
         }
+        Err(Refusal::OutOfMemory) => Err(OutOfMemory),
     }
 }
 
@@ -72,9 +75,10 @@ pub fn open_project(
 {
     match read_tables(alloc, table) {
         Ok(tables) => open_text(alloc, tables, text, opts, clocks),
-        Err(fault) => {
+        Err(Refusal::Fault(fault)) => {
             let answer = refused_table(alloc, fault)?;
             Ok(Opened::Refused(answer))
         }
+        Err(Refusal::OutOfMemory) => Err(OutOfMemory),
     }
 }

@@ -1,6 +1,7 @@
 //! Lines, keys and escapes, and which faulty line is told.
 use ioc_text::{Ioc, IocFault, read_ioc};
 use ioc_without::text_without;
+use refusal::Refusal;
 use std::alloc::{AllocError, Global};
 use std::process::Abort;
 use std::test::Fail;
@@ -12,7 +13,7 @@ fn text_of(bytes: &[u8]) -> &str {
 }
 
 /// The lines as `NUMBER KEY=VALUE`, or the fault and its line.
-fn told(alloc: Global, read: &Result<Ioc, IocFault>) -> Result<String, AllocError> {
+fn told(alloc: Global, read: &Result<Ioc, Refusal<IocFault>>) -> Result<String, AllocError> {
     let mut out = String::new(alloc);
     match read {
         Ok(ioc) => {
@@ -22,7 +23,8 @@ fn told(alloc: Global, read: &Result<Ioc, IocFault>) -> Result<String, AllocErro
                 out.push_str(format!(in alloc; "{} {key}={value}|", line.number)?.as_str())?;
             }
         }
-        Err(fault) => out.push_str(format!(in alloc; "{fault:?}")?.as_str())?,
+        Err(Refusal::Fault(fault)) => out.push_str(format!(in alloc; "{fault:?}")?.as_str())?,
+        Err(Refusal::OutOfMemory) => return Err(AllocError),
     }
     Ok(out)
 }

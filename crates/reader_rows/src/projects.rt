@@ -2,6 +2,7 @@
 use ioc_project::{Project, ProjectFault, read_project};
 use ioc_text::read_ioc;
 use mcu_tables::{TableFault, Tables, read_tables};
+use refusal::Refusal;
 use res_base::{Items, OutOfMemory, Text};
 use res_model::{Free, Opts};
 use std::alloc::{AllocError, Global};
@@ -15,7 +16,7 @@ fn table() -> &'static str {
     r#"{"version":1,"names":["STM32F405R","STM32F407V(E-G)Tx"],"package":"LQFP100","pins":["PA9","PB6","PB8","PD12","PH0-OSC_IN"],"signals":[{"name":"USART1_TX","use":"alt","at":[["PA9",7],["PB6",7]]},{"name":"I2C1_SCL","use":"alt","at":[["PB6",7],["PB8",7]]},{"name":"GPIO_Output","use":"output"},{"name":"RCC_OSC_IN","use":"osc","at":["PH0-OSC_IN"]}],"hse_in":"RCC_OSC_IN","hse_out":"RCC_OSC_OUT","ips":[{"name":"RNG","clock48":"most","marks":["OTHER","RNG_VS_RNG"]}],"clock":{"m":[2,63],"n":[50,432],"p":[2,4,6,8],"q":[2,15],"hpre":[1,2,4],"ppre1":[1,2,4],"ppre2":[1,2,4],"vos":[1,2]},"limits":{"crystal":[4000000,26000000],"bypass":[1000000,50000000],"vco_in":[1000000,2000000],"vco":[100000000,432000000],"sysclk":168000000,"pclk1":42000000,"pclk2":84000000},"scales":[{"vos":1,"max":168000000},{"vos":2,"max":144000000}],"flash":[{"from":1800,"to":3600,"prefetch":false,"rows":[20000000,40000000]}],"defaults":{"src":"HSI","psrc":"HSI","hpre":1,"p":2,"m":16,"n":192,"q":4,"ppre1":1,"ppre2":1,"vos":1,"hse":8000000}}"#
 }
 
-fn tables(alloc: Global) -> Result<Tables, TableFault> {
+fn tables(alloc: Global) -> Result<Tables, Refusal<TableFault>> {
     read_tables(alloc, table().as_bytes())
 }
 
@@ -39,7 +40,10 @@ fn options(alloc: Global, needs: &[&str], free: Free) -> Result<Opts, OutOfMemor
 }
 
 /// The signals, the homes of the clock variables with their lines, the HSE and the marks; or the fault.
-fn told(alloc: Global, read: &Result<Project, ProjectFault>) -> Result<String, AllocError> {
+fn told(
+    alloc: Global,
+    read: &Result<Project, Refusal<ProjectFault>>,
+) -> Result<String, AllocError> {
     let mut out = String::new(alloc);
     match read {
         Ok(project) => {
@@ -59,7 +63,8 @@ fn told(alloc: Global, read: &Result<Project, ProjectFault>) -> Result<String, A
                 out.push_str(mark.as_str())?;
             }
         }
-        Err(fault) => out.push_str(format!(in alloc; "{fault:?}")?.as_str())?,
+        Err(Refusal::Fault(fault)) => out.push_str(format!(in alloc; "{fault:?}")?.as_str())?,
+        Err(Refusal::OutOfMemory) => return Err(AllocError),
     }
     Ok(out)
 }
@@ -75,7 +80,8 @@ fn told_of(alloc: Global, text: &str, opts: &Opts, clocks: bool) -> Result<Strin
             let read = read_project(alloc, &t, &ioc, opts, clocks);
             Ok(told(alloc, &read)?)
         }
-        Err(fault) => Ok(format!(in alloc; "{fault:?}")?),
+        Err(Refusal::Fault(fault)) => Ok(format!(in alloc; "{fault:?}")?),
+        Err(Refusal::OutOfMemory) => Err(Fail::from("no memory")),
     }
 }
 

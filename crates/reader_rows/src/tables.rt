@@ -1,5 +1,6 @@
 //! Which fault comes first, and what a table says.
 use mcu_tables::{StepLimits, TableFault, TableParts, TableSignal, Tables, read_tables};
+use refusal::Refusal;
 use res_base::OutOfMemory;
 use res_model::scale_limit;
 use std::alloc::{AllocError, Global};
@@ -94,12 +95,24 @@ fn changed(alloc: Global, table: &str, old: &str, new: &str) -> Result<String, A
 fn answer(alloc: Global, text: &str) -> Result<String, AllocError> {
     match read_tables(alloc, text.as_bytes()) {
         Ok(_) => String::from_str(alloc, "read"),
-        Err(TableFault::NotJson) => String::from_str(alloc, "not json"),
-        Err(TableFault::Missing { path }) => format!(in alloc; "missing {}", path.as_str()),
-        Err(TableFault::BadField { path }) => format!(in alloc; "field {}", path.as_str()),
-        Err(TableFault::Repeated { path }) => format!(in alloc; "repeated {}", path.as_str()),
-        Err(TableFault::ResetIllegal { limit }) => format!(in alloc; "reset {limit}"),
-        Err(TableFault::Memory) => Err(AllocError),
+        Err(Refusal::Fault(TableFault::NotJson)) => String::from_str(alloc, "not json"),
+        Err(Refusal::Fault(TableFault::Missing { path })) => format!(in alloc;
+            "missing {}",
+            path.as_str()
+        ),
+        Err(Refusal::Fault(TableFault::BadField { path })) => format!(in alloc;
+            "field {}",
+            path.as_str()
+        ),
+        Err(Refusal::Fault(TableFault::Repeated { path })) => format!(in alloc;
+            "repeated {}",
+            path.as_str()
+        ),
+        Err(Refusal::Fault(TableFault::ResetIllegal { limit })) => format!(in alloc;
+            "reset {}",
+            limit.number()
+        ),
+        Err(Refusal::OutOfMemory) => Err(AllocError),
     }
 }
 

@@ -137,12 +137,3 @@ proof_of text = proof_from 1 (lines_of text)
 -- a line that may stand before a proof: it has no end within, and is not a proof's first line
 abbrev pub IsPassedOver : List ℕ → Type 0
 IsPassedOver line = Each (λ (c : ℕ). (c == 10) ≡ false) line × (bytes_eq line (codes "proof 1") ≡ false)
-
--- ---- what a reader answers. Want of memory is the one free answer
-abbrev pub Refuses : {Y : Type 0} → ProofFault → Result Y ProofFault → Type 0
-Refuses fault.Memory read = Unit {0}
-Refuses (fault.Line line) read = read ≡ Err (fault.Line line)
-
-abbrev pub Gives : {X Y : Type 0} → (X → Y) → Result X ProofFault → Result Y ProofFault → Type 0
-Gives look (Ok x) read = read ≡ Ok (look x)
-Gives look (Err e) read = Refuses e read

@@ -1,7 +1,6 @@
 //! The plain data of a proof.
-use res_base::{Items, OutOfMemory};
+use res_base::Items;
 use search_api::Reason;
-use std::alloc::{AllocError, AllocFailed};
 
 /// A node of a proof, which stands for a box.
 #[derive(Clone, Copy, Debug, PartialEq, Eq)]
@@ -26,55 +25,16 @@ pub struct Proof {
 }
 
 /// Why a checker does not accept a proof.
-#[derive(Clone, Copy, Debug, PartialEq, Eq, thiserror::Error)]
+#[derive(Clone, Copy, Debug, PartialEq, Eq)]
 pub enum CheckFault {
     /// The number, from 0, of the first node that breaks its rule; the number of nodes where the
     /// bound has no witness.
-    #[error("proof: node {node}")]
     Rejected { node: u32 },
-    #[error("out of memory")]
-    Memory,
 }
 
 /// Why a text is read as no proof.
-#[derive(Clone, Copy, Debug, PartialEq, Eq, thiserror::Error)]
+#[derive(Clone, Copy, Debug, PartialEq, Eq)]
 pub enum ProofFault {
     /// The first line, from 1, that is not of a form due there, or one after the last line.
-    #[error("proof: line {line}")]
     Line { line: u32 },
-    #[error("out of memory")]
-    Memory,
-}
-
-impl From<OutOfMemory> for ProofFault {
-    ghost use Rattle.std.specs.Prelude.{◌≡◌};
-    ghost use Rattle.refutation.specs.declared.node.ProofFault.TheVariants.{Memory};
-
-    ghost from_gives = { λ _ e. e ≡ Memory };
-
-    fn from(_e: OutOfMemory) -> ProofFault {
-        ProofFault::Memory
-    }
-}
-
-impl From<AllocError> for ProofFault {
-    ghost use Rattle.std.specs.Prelude.{◌≡◌};
-    ghost use Rattle.refutation.specs.declared.node.ProofFault.TheVariants.{Memory};
-
-    ghost from_gives = { λ _ e. e ≡ Memory };
-
-    fn from(_e: AllocError) -> ProofFault {
-        ProofFault::Memory
-    }
-}
-
-impl<T: Drop> From<AllocFailed<T>> for ProofFault {
-    ghost use Rattle.std.specs.Prelude.{◌≡◌};
-    ghost use Rattle.refutation.specs.declared.node.ProofFault.TheVariants.{Memory};
-
-    ghost from_gives = { λ _ e. e ≡ Memory };
-
-    fn from(_e: AllocFailed<T>) -> ProofFault {
-        ProofFault::Memory
-    }
 }

@@ -3,9 +3,11 @@ ghost use Rattle.std.specs.Prelude.{◌≡◌, ◌==◌, ℕ, ◌+◌, ◌<◌, 
 ghost use Rattle.std.specs.Option.{option_map, option_copied};
 ghost use Rattle.res_base.specs.VarSet.{in_set, NoneFrom};
 ghost use Rattle.refutation.specs.Forms.{form_of, due_after, Joins};
-ghost use Rattle.refutation.specs.Reading.{lines_of, line_after, HasNoEnd, fields, more_fields, number_of, number_below, number_from, split_form, limit_form, hall_form, form_of_text, bound_of_text, with_bound, forms_from, bound_from, proof_of, Refuses, Gives};
+ghost use Rattle.refutation.specs.Reading.{lines_of, line_after, HasNoEnd, fields, more_fields, number_of, number_below, number_from, split_form, limit_form, hall_form, form_of_text, bound_of_text, with_bound, forms_from, bound_from, proof_of};
+ghost use Rattle.refusal.specs.Refusals.{Refuses, Gives};
 
 use crate::node::{Node, Proof, ProofFault};
+use refusal::Refusal;
 use res_base::{Items, VarSet, parse_dec};
 use search_api::{Class, Reason};
 use std::alloc::Global;
@@ -15,7 +17,7 @@ use std::alloc::Global;
 /// A text that spells no proof is refused at its first line that is not of a form due there. A
 /// line that has no end is refused too. Where a line is due and the text has come to its end, the
 /// refusal names the number after the last line's. A number above 4,294,967,295 is told as that one.
-pub fn read_proof(alloc: Global, text: &[u8]) -> Result<Proof, ProofFault>
+pub fn read_proof(alloc: Global, text: &[u8]) -> Result<Proof, Refusal<ProofFault>>
     requires { length text.now < 2 ^ 32 }
     ensures { Gives (λ p. (p.bound, map form_of p.nodes)) result (proof_of text.now) }
 {
@@ -30,7 +32,7 @@ pub fn read_proof(alloc: Global, text: &[u8]) -> Result<Proof, ProofFault>
 
 /// What follows a proof's first line, and the number of the line there.
 #[tactic(auto, unfolding(crate::specs::Reading::proof_of))]
-fn after_first_line(text: &[u8]) -> Result<(u32, &[u8]), ProofFault>
+fn after_first_line(text: &[u8]) -> Result<(u32, &[u8]), Refusal<ProofFault>>
     ensures found { IfOk result (λ x. proof_of text.now ≡ bound_from x.0 (lines_of x.1.now)) }
     ensures shorter { IfOk result (λ x. length x.1.now ≤ length text.now) }
     ensures refused { IfErr result (λ e. Refuses e (proof_of text.now)) }
@@ -43,22 +45,22 @@ fn after_first_line(text: &[u8]) -> Result<(u32, &[u8]), ProofFault>
             return if ended {
                 Ok((line_after(number), others))
             } else {
-                Err(ProofFault::Line { line: number })
+                Err(Refusal::Fault(ProofFault::Line { line: number }))
             };
         }
         rest = others;
         number = line_after(number);
     }
-    Err(ProofFault::Line { line: number })
+    Err(Refusal::Fault(ProofFault::Line { line: number }))
 }
 
 /// The bound of the first line, and what follows the line.
-fn bound_in(number: u32, text: &[u8]) -> Result<(Option<u64>, &[u8]), ProofFault>
+fn bound_in(number: u32, text: &[u8]) -> Result<(Option<u64>, &[u8]), Refusal<ProofFault>>
     ensures found { IfOk result (λ x. bound_from number (lines_of text.now) ≡ with_bound x.0 (forms_from (line_after number) 1 (lines_of x.1.now))) }
     ensures shorter { IfOk result (λ x. length x.1.now ≤ length text.now) }
     ensures refused { IfErr result (λ e. Refuses e (bound_from number (lines_of text.now))) }
 {
-    let fault = ProofFault::Line { line: number };
+    let fault = Refusal::Fault(ProofFault::Line { line: number });
     let Some((line, rest)) = ended_line(text) else {
         return Err(fault);
     };
@@ -69,7 +71,7 @@ fn bound_in(number: u32, text: &[u8]) -> Result<(Option<u64>, &[u8]), ProofFault
 }
 
 /// The nodes of one tree, a line each, before the last line.
-fn nodes_in(alloc: Global, first: u32, text: &[u8]) -> Result<Vec<Node>, ProofFault>
+fn nodes_in(alloc: Global, first: u32, text: &[u8]) -> Result<Vec<Node>, Refusal<ProofFault>>
     requires { length text.now < 2 ^ 32 }
     ensures { Gives (λ nodes. map form_of nodes.items) result (forms_from first 1 (lines_of text.now)) }
 {
@@ -79,10 +81,10 @@ fn nodes_in(alloc: Global, first: u32, text: &[u8]) -> Result<Vec<Node>, ProofFa
     let mut due = 1u64;
     while due > 0 {
         let Some((line, others)) = ended_line(rest) else {
-            return Err(ProofFault::Line { line: number });
+            return Err(Refusal::Fault(ProofFault::Line { line: number }));
         };
         let Some(node) = node_of(line) else {
-            return Err(ProofFault::Line { line: number });
+            return Err(Refusal::Fault(ProofFault::Line { line: number }));
         };
         nodes.push(node)?;
         due = due_after(due, node);
@@ -112,21 +114,21 @@ fn due_after(due: u64, node: Node) -> u64
 }
 
 /// Whether the last line of a proof stands here, and nothing after it.
-fn last_line(number: u32, text: &[u8]) -> Result<(), ProofFault>
+fn last_line(number: u32, text: &[u8]) -> Result<(), Refusal<ProofFault>>
     ensures { Gives (λ _. []) result (forms_from number 0 (lines_of text.now)) }
 {
     let Some((line, rest)) = ended_line(text) else {
-        return Err(ProofFault::Line { line: number });
+        return Err(Refusal::Fault(ProofFault::Line { line: number }));
     };
     if line != b"end".as_slice() {
-        return Err(ProofFault::Line { line: number });
+        return Err(Refusal::Fault(ProofFault::Line { line: number }));
     }
     if rest.is_empty() {
         Ok(())
     } else {
-        Err(ProofFault::Line {
+        Err(Refusal::Fault(ProofFault::Line {
             line: line_after(number),
-        })
+        }))
     }
 }
 

@@ -17,9 +17,12 @@ use Rattle.reg_machine.specs.declared.op.Stepped.{Stepped}
 use Rattle.reg_machine.specs.declared.op.Stepped.TheVariants as stepped
 use Rattle.reg_machine.specs.declared.state.State.{State}
 use Rattle.reg_machine.specs.declared.state.Target.{Target}
+use Rattle.refusal.specs.declared.refusal.Refusal.{Refusal}
+use Rattle.refusal.specs.declared.refusal.Refusal.TheVariants.{Fault, OutOfMemory}
+use Rattle.refusal.specs.Refusals.{Refuses}
 use Rattle.reg_trace.specs.Lines.{OpWent, RunDone, TraceLine, done_text, end_text, line_text, text_of}
 use Rattle.reg_trace.specs.Reading.{most}
-use Rattle.reg_trace.specs.Trace.{Moment, Refuses, fine_after, goes_on, is_fine, is_over, lines_from, moment, moments, number_after, register_of, step_lines, trace_lines, trace_of}
+use Rattle.reg_trace.specs.Trace.{Moment, fine_after, goes_on, is_fine, is_over, lines_from, moment, moments, number_after, register_of, step_lines, trace_lines, trace_of}
 use Rattle.reg_trace.specs.Turn.{IsSeen, IsTurn, Traces, run_lines, run_over, seen_text, todo_after}
 use Rattle.reg_trace.specs.declared.lines.Seen.{Seen}
 use Rattle.reg_trace.specs.declared.turn.Turn.{Turn}
@@ -265,7 +268,7 @@ too_long t want ops answers v is over =
     ap (λ (b : Bool). cond b (Ok (text_of (run_lines (fresh t want) ops answers))) (Err fault.Long)) (ap (λ (u : View). run_over u ops answers) (sym is) ∙ over)
 
 -- what was refused
-pub refused : (t : TableParts) (want : Target) (ops : List Op) (answers : List Answer) (v : View) (old new : List ℕ) (e : TraceFault)
+pub refused : (t : TableParts) (want : Target) (ops : List Op) (answers : List Answer) (v : View) (old new : List ℕ) (e : Refusal TraceFault)
     → v ≡ fresh t want → Traces {X = Unit {0}} v ops answers old new (Err e) → Refuses e (trace_of t want ops answers)
-refused t want ops answers v old new fault.Long is over = too_long t want ops answers v is over
-refused t want ops answers v old new fault.Memory is over = tt
+refused t want ops answers v old new (Fault fault.Long) is over = too_long t want ops answers v is over
+refused t want ops answers v old new OutOfMemory is over = tt

@@ -100,12 +100,3 @@ answers_from number room (l ∷ ls) =
 -- the answers that a text says, or its first line that breaks the form or passes the most
 unfoldable pub answers_of : List ℕ → Result (List Answer) AnswerFault
 answers_of text = answers_from 1 most (lines_of text)
-
--- ---- what a reader answers. Want of memory is the one free answer
-abbrev pub Refuses : {Y : Type 0} → AnswerFault → Result Y AnswerFault → Type 0
-Refuses fault.Memory read = Unit {0}
-Refuses (fault.Line line) read = read ≡ Err (fault.Line line)
-
-abbrev pub Gives : {X Y : Type 0} → (X → Y) → Result X AnswerFault → Result Y AnswerFault → Type 0
-Gives look (Ok x) read = read ≡ Ok (look x)
-Gives look (Err e) read = Refuses e read

@@ -116,12 +116,3 @@ trace_lines t want ops answers =
 unfoldable pub trace_of : TableParts → Target → List Op → List Answer → Result (List ℕ) TraceFault
 trace_of t want ops answers =
     if is_over (config_at most answers (Running ops (reset_of t want))) then Ok (text_of (trace_lines t want ops answers)) else Err fault.Long
-
--- ---- what a tracer answers. Want of memory is the one free answer
-abbrev pub Refuses : {Y : Type 0} → TraceFault → Result Y TraceFault → Type 0
-Refuses fault.Memory read = Unit {0}
-Refuses fault.Long read = read ≡ Err fault.Long
-
-abbrev pub Gives : {X Y : Type 0} → (X → Y) → Result X TraceFault → Result Y TraceFault → Type 0
-Gives look (Ok x) read = read ≡ Ok (look x)
-Gives look (Err e) read = Refuses e read

@@ -14,6 +14,8 @@ use Rattle.reg_machine.specs.declared.op.Stepped.{Stepped}
 use Rattle.reg_machine.specs.declared.op.Stepped.TheVariants as stepped
 use Rattle.reg_machine.specs.declared.op.Timeout.{Timeout}
 use Rattle.reg_machine.specs.declared.state.State.{State}
+use Rattle.refusal.specs.declared.refusal.Refusal.{Refusal}
+use Rattle.refusal.specs.declared.refusal.Refusal.TheVariants.{Fault, OutOfMemory}
 use Rattle.reg_trace.specs.Lines.{OpWent, RunForbidden, RunTimedOut, TraceLine, line_text, text_of}
 use Rattle.reg_trace.specs.Reading.{most}
 use Rattle.reg_trace.specs.Trace.{is_fine, is_over, lines_from, moment, moments, register_of, step_lines}
@@ -87,7 +89,7 @@ abbrev pub run_over : View → List Op → List Answer → Bool
 run_over v ops answers = is_over (config_at most answers (Running ops v.state))
 
 -- a run was appended to a text, whole where it has no more steps than the most
-abbrev pub Traces : {X : Type 0} → View → List Op → List Answer → List ℕ → List ℕ → Result X TraceFault → Type 0
+abbrev pub Traces : {X : Type 0} → View → List Op → List Answer → List ℕ → List ℕ → Result X (Refusal TraceFault) → Type 0
 Traces v ops answers old new (Ok x) = (run_over v ops answers ≡ true) × (new ≡ old ++ text_of (run_lines v ops answers))
-Traces v ops answers old new (Err fault.Long) = run_over v ops answers ≡ false
-Traces v ops answers old new (Err fault.Memory) = Unit {0}
+Traces v ops answers old new (Err (Fault fault.Long)) = run_over v ops answers ≡ false
+Traces v ops answers old new (Err OutOfMemory) = Unit {0}

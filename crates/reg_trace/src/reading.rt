@@ -1,10 +1,12 @@
 //! Flag answers read from a text.
 ghost use Rattle.std.specs.Prelude.{◌≡◌, ◌++◌, [], ◌∷◌, replicate, OnOk};
+ghost use Rattle.refusal.specs.Refusals.{Gives};
 ghost use Rattle.text_lines.specs.Lines.{fields};
-ghost use Rattle.reg_trace.specs.Reading.{Gives, answers_of, count_of, line_after, line_form, most, number_of};
+ghost use Rattle.reg_trace.specs.Reading.{answers_of, count_of, line_after, line_form, most, number_of};
 
 use crate::fault::AnswerFault;
 use crate::flags::flags_of;
+use refusal::Refusal;
 use reg_machine::Answer;
 use res_base::parse_dec;
 use std::alloc::{AllocError, Global};
@@ -31,7 +33,7 @@ pub(crate) struct Repeated {
 /// A text of another form is refused at its first line that breaks the form, or with which there are more than 1,000,000
 /// answers. A line that has no end is refused too.
 #[tactic(auto, unfolding(crate::specs::Reading::answers_of))]
-pub fn read_answers(alloc: Global, text: &[u8]) -> Result<Vec<Answer>, AnswerFault>
+pub fn read_answers(alloc: Global, text: &[u8]) -> Result<Vec<Answer>, Refusal<AnswerFault>>
     ensures { Gives (λ answers. answers.items) result (answers_of text.now) }
 {
     let mut answers = Vec::new(alloc);
@@ -40,13 +42,13 @@ pub fn read_answers(alloc: Global, text: &[u8]) -> Result<Vec<Answer>, AnswerFau
     let mut room = most();
     'lines: while !rest.is_empty() {
         let Some((line, others)) = ended_line(rest) else {
-            return Err(AnswerFault::Line { line: number });
+            return Err(Refusal::Fault(AnswerFault::Line { line: number }));
         };
         let Some(some) = repeated_of(line) else {
-            return Err(AnswerFault::Line { line: number });
+            return Err(Refusal::Fault(AnswerFault::Line { line: number }));
         };
         if room < some.count {
-            return Err(AnswerFault::Line { line: number });
+            return Err(Refusal::Fault(AnswerFault::Line { line: number }));
         }
         put_answers(&mut answers, some.count, some.answer)?;
         room -= some.count;

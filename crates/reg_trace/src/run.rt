@@ -1,10 +1,11 @@
 //! A run from reset, traced.
 ghost use Rattle.std.specs.Prelude.{◌≡◌, ◌<◌, ◌^◌, ◌∷◌, drop, get_or, length, IfOk};
 ghost use Rattle.res_base.specs.Lists.{Each};
+ghost use Rattle.refusal.specs.Refusals.{Gives};
 ghost use Rattle.reg_machine.specs.Legal.{is_legal};
 ghost use Rattle.reg_machine.specs.Run.{silent};
 ghost use Rattle.reg_machine.specs.Words.{IsOp};
-ghost use Rattle.reg_trace.specs.Trace.{Gives, trace_of};
+ghost use Rattle.reg_trace.specs.Trace.{trace_of};
 ghost use Rattle.reg_trace.specs.Turn.{IsShown, Traces};
 
 use crate::fault::TraceFault;
@@ -12,6 +13,7 @@ use crate::flags::silent;
 use crate::lines::{put_done, put_step, seen_of};
 use crate::reading::most;
 use crate::turn::{Turn, fine_after, goes_on, number_after, take_turn, todo_after};
+use refusal::Refusal;
 use reg_machine::{Answer, Machine, Op, Target};
 use res_base::OutOfMemory;
 use res_model::Tables;
@@ -76,7 +78,7 @@ fn put_run(
     ops: &[Op],
     answers: &[Answer],
     out: &mut Vec<u8>,
-) -> Result<(), TraceFault>
+) -> Result<(), Refusal<TraceFault>>
     requires { Each IsOp ops.now }
     ensures { Traces m.old ops.now answers.now out.old.items out.new.items result }
 {
@@ -88,7 +90,7 @@ fn put_run(
     let mut left = most();
     'steps: while !todo.is_empty() {
         if left == 0 {
-            return Err(TraceFault::Long);
+            return Err(Refusal::Fault(TraceFault::Long));
         }
         let op = next_op(todo);
         let turn = shown_turn(m, &op, next_answer(coming), number, fine, legal, out)?;
@@ -117,7 +119,7 @@ pub fn trace(
     want: &Target,
     ops: &[Op],
     answers: &[Answer],
-) -> Result<Vec<u8>, TraceFault>
+) -> Result<Vec<u8>, Refusal<TraceFault>>
     requires hse { want.now.facts.hse_hz < 2 ^ 32 }
     requires ops { Each IsOp ops.now }
     ensures { Gives (λ text. text.items) result (trace_of t.now want.now ops.now answers.now) }

@@ -9,14 +9,15 @@ use Rattle.call_io.proofs.ServedLemmas.{answered_for, ends_as_usage, two_is_usag
 use Rattle.call_io.specs.Gathered.{AllRead, AreSeen, IsOfInputs}
 use Rattle.call_io.specs.Inputs.{Files, Input, Reads, Wrote, first_long}
 use Rattle.call_io.specs.Ran.{Ended, IsWritten, Served}
-use Rattle.cmd_words.specs.UsageFaults.{Refuses}
+use Rattle.refusal.specs.Refusals.{Refuses}
 use Rattle.cmd_words.specs.declared.command.Command.{Command}
 use Rattle.cmd_words.specs.declared.fault.UsageFault.{UsageFault}
-use Rattle.cmd_words.specs.declared.fault.UsageFault.TheVariants as words
+use Rattle.refusal.specs.declared.refusal.Refusal.{Refusal}
+use Rattle.refusal.specs.declared.refusal.Refusal.TheVariants as refusal
 use Rattle.res_base.specs.Lists.{Each}
 use Rattle.resolver.specs.Due.{Due, IsUsage, OfBytes, OfCommand, names_of, waits}
 use Rattle.resolver.specs.Opening.{AreInputs}
-use Rattle.resolver.specs.Refusals.{words_refusal}
+use Rattle.resolver.specs.Refusing.{IsSaid}
 
 -- inputs that were read
 pub read_whole : (c : Command) (read : List (List ℕ)) (a : Answer) → OfBytes c read a → (inputs : List Input) → AreSeen read inputs → OfCommand c inputs a
@@ -53,18 +54,18 @@ usage : (a : Answer) (text : List ℕ) → a ≡ answered Usage text → IsOfInp
 usage a text e = subst IsOfInputs (sym (ap (λ (x : Answer). x.status) e)) (record { own = record { no_write_fault = λ q. absurd cc; no_memory = λ q. absurd cc }; no_read_fault = λ q. absurd cc; no_length = λ q. absurd cc })
 
 -- what is said of words that have no reading
-pub unread_words : (f : UsageFault) (asked : Result Command UsageFault) (r : Reads) (a : Answer) → Refuses f asked → f ≢ words.Memory → Says a Usage (words_refusal f) → Served (names_of asked) (Due asked) r r a
-unread_words words.Memory asked r a h differs says = absurd (differs refl)
-unread_words (words.Word number) asked r a h differs says =
+pub unread_words : (f : Refusal UsageFault) (asked : Result Command UsageFault) (r : Reads) (a : Answer) → Refuses f asked → IsSaid f a → Served (names_of asked) (Due asked) r r a
+unread_words (refusal.Fault fault) asked r a h says =
     subst (λ (q : Result Command UsageFault). Served (names_of q) (Due q) r r a) (sym h)
-    (answered_for [] (Due (Err (words.Word number))) r r [] a tt (inl refl) (usage a _ says) (λ inputs seen. says))
+    (answered_for [] (Due (Err fault)) r r [] a tt (inl refl) (usage a _ says) (λ inputs seen. says))
+unread_words refusal.OutOfMemory asked r a h says = absurd says
 
 -- words that have no reading are no command that waits
-pub no_waiting : {E : Type 0} (f : UsageFault) (asked : Result Command UsageFault) (r : Result Answer E) (out_before out_after : Wrote) (status : Status)
-    → Refuses f asked → IfOk r (λ a. (f ≢ words.Memory) × Says a Usage (words_refusal f)) → IsWritten r out_before out_after status → status ≢ OutOfMemory → waits asked ≡ false
-no_waiting (words.Word number) asked r ob oa status h said written differs = ap waits h
-no_waiting words.Memory asked (Ok a) ob oa status h said written differs = absurd (said.0 refl)
-no_waiting words.Memory asked (Err e) ob oa status h said written differs = absurd (differs written.0)
+pub no_waiting : {E : Type 0} (f : Refusal UsageFault) (asked : Result Command UsageFault) (r : Result Answer E) (out_before out_after : Wrote) (status : Status)
+    → Refuses f asked → IfOk r (IsSaid f) → IsWritten r out_before out_after status → status ≢ OutOfMemory → waits asked ≡ false
+no_waiting (refusal.Fault fault) asked r ob oa status h said written differs = ap waits h
+no_waiting refusal.OutOfMemory asked (Ok a) ob oa status h said written differs = absurd said
+no_waiting refusal.OutOfMemory asked (Err e) ob oa status h said written differs = absurd (differs written.0)
 
 -- ---- status 2
 
@@ -76,17 +77,17 @@ no_usage asked command status e differs = record {
 }
 
 -- the status of what is said of words
-pub said_of_words : {E : Type 0} (f : UsageFault) (asked : Result Command UsageFault) (before after : Reads) (r : Result Answer E) (out_before out_after : Wrote) (status : Status)
-    → Refuses f asked → IfOk r (λ a. (f ≢ words.Memory) × Says a Usage (words_refusal f)) → IsWritten r out_before out_after status
+pub said_of_words : {E : Type 0} (f : Refusal UsageFault) (asked : Result Command UsageFault) (before after : Reads) (r : Result Answer E) (out_before out_after : Wrote) (status : Status)
+    → Refuses f asked → IfOk r (IsSaid f) → IsWritten r out_before out_after status
     → Ended (names_of asked) (Due asked) before after out_before out_after status → IsUsage asked (number_of status)
-said_of_words (words.Word number) asked before after r ob oa status h said written ended = record {
-  only = λ two. (words.Word number, h);
-  always = λ fault unread.
-      ends_as_usage (Due (Err fault)) before after ob oa status (λ a says. ap (λ (x : Answer). x.status) says)
+said_of_words (refusal.Fault fault) asked before after r ob oa status h said written ended = record {
+  only = λ two. (fault, h);
+  always = λ other unread.
+      ends_as_usage (Due (Err other)) before after ob oa status (λ a says. ap (λ (x : Answer). x.status) says)
       (subst (λ (q : Result Command UsageFault). Ended (names_of q) (Due q) before after ob oa status) unread ended);
 }
-said_of_words words.Memory asked before after (Ok a) ob oa status h said written ended = absurd (said.0 refl)
-said_of_words words.Memory asked before after (Err e) ob oa status h said written ended = record {
+said_of_words refusal.OutOfMemory asked before after (Ok a) ob oa status h said written ended = absurd said
+said_of_words refusal.OutOfMemory asked before after (Err e) ob oa status h said written ended = record {
   only = λ two. let k : 9 ≡ 2 = sym (ap number_of written.0) ∙ two in absurd cc;
-  always = λ fault unread. inr (inr (ap number_of written.0));
+  always = λ other unread. inr (inr (ap number_of written.0));
 }

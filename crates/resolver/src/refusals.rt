@@ -1,20 +1,33 @@
 //! The line and the status of words that are refused.
-ghost use Rattle.std.specs.Prelude.{◌≡◌, ◌≢◌, IfOk};
-ghost use Rattle.answers.specs.Said.{Says};
-ghost use Rattle.answers.specs.declared.answer.Status.TheVariants as status;
-ghost use Rattle.resolver.specs.Refusals.{words_refusal};
+ghost use Rattle.std.specs.Prelude.{◌≡◌, IfOk};
+ghost use Rattle.resolver.specs.Refusing.{IsSaid};
 
 use answers::{Answer, Status, counts};
 use cmd_words::UsageFault;
+use refusal::Refusal;
 use res_base::OutOfMemory;
 use std::alloc::Global;
 
-/// What is said of words that have no reading.
-pub(crate) fn refused_words(alloc: Global, fault: UsageFault) -> Result<Answer, OutOfMemory>
-    ensures { IfOk result (λ a. (fault ≢ UsageFault.Memory) × Says a status.Usage (words_refusal fault)) }
+/// The first word that can't stand where it does.
+fn word_of(fault: UsageFault) -> usize
+    ensures { fault ≡ UsageFault.Word result }
 {
     match fault {
-        UsageFault::Word { word } => counts(alloc, Status::Usage, "usage: word ", word as u64),
-        UsageFault::Memory => Err(OutOfMemory),
+        UsageFault::Word { word } => word,
+    }
+}
+
+/// What is said of words that have no reading.
+pub(crate) fn refused_words(
+    alloc: Global,
+    refusal: Refusal<UsageFault>,
+) -> Result<Answer, OutOfMemory>
+    ensures { IfOk result (IsSaid refusal) }
+{
+    match refusal {
+        Refusal::Fault(fault) => {
+            counts(alloc, Status::Usage, "usage: word ", word_of(fault) as u64)
+        }
+        Refusal::OutOfMemory => Err(OutOfMemory),
     }
 }

@@ -11,11 +11,21 @@ use dma_model::DmaTable;
 use dma_rules::{DmaFault, DmaWant, dma_answer};
 use dma_table::read_dma;
 use project_reading::refused_table;
+use refusal::Refusal;
 use res_base::{Items, OutOfMemory, Text};
 use res_io::Gate;
 use std::alloc::Global;
 use std::sync::Wait;
 use std::thread::Threads;
+
+/// The number of the first word that names no request, or one that was named.
+fn number_of(fault: DmaFault) -> u64
+    ensures { fault ≡ DmaFault.Request result }
+{
+    match fault {
+        DmaFault::Request { number } => number as u64,
+    }
+}
 
 /// What is due for the requests that words name.
 fn requested<R: Threads + Wait + Sync, G: Gate + Sync>(
@@ -34,13 +44,13 @@ fn requested<R: Threads + Wait + Sync, G: Gate + Sync>(
 {
     match DmaWant::new(alloc, table, words) {
         Ok(want) => dma_answer(rt, alloc, want, workers, gate),
-        Err(DmaFault::Request { number }) => counts(
+        Err(Refusal::Fault(fault)) => counts(
             alloc,
             Status::RequestRefused,
             "dma: request ",
-            number as u64,
+            number_of(fault),
         ),
-        Err(DmaFault::Memory) => Err(OutOfMemory),
+        Err(Refusal::OutOfMemory) => Err(OutOfMemory),
     }
 }
 
@@ -62,6 +72,7 @@ pub(crate) fn dma<R: Threads + Wait + Sync, G: Gate + Sync>(
 {
     match read_dma(alloc, input_at(files, 0, 1)) {
         Ok(table) => requested(rt, alloc, &table, words, workers, gate),
-        Err(fault) => refused_table(alloc, fault),
+        Err(Refusal::Fault(fault)) => refused_table(alloc, fault),
+        Err(Refusal::OutOfMemory) => Err(OutOfMemory),
     }
 }

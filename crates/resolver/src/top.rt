@@ -5,7 +5,7 @@ ghost use Rattle.answers.specs.declared.answer.Status.TheVariants as status;
 ghost use Rattle.call_io.specs.Inputs.{Reads, reads, wrote};
 ghost use Rattle.call_io.specs.Ran.{Answers, Ended, NoneFailed, Ran, Served};
 ghost use Rattle.cmd_words.specs.Asked.{inputs_of, may_wait};
-ghost use Rattle.cmd_words.specs.UsageFaults.{Refuses};
+ghost use Rattle.refusal.specs.Refusals.{Refuses};
 ghost use Rattle.cmd_words.specs.Words.{IsWithinLimits, command_of};
 ghost use Rattle.cmd_words.specs.declared.command.Command.{Command};
 ghost use Rattle.cmd_words.specs.declared.fault.UsageFault.{UsageFault};
@@ -18,6 +18,7 @@ use crate::threads::of_bytes_by;
 use answers::{Answer, Status};
 use call_io::{Gathered, gather, write_answer};
 use cmd_words::{Command, UsageFault, read_words};
+use refusal::Refusal;
 use res_base::{OutOfMemory, Text};
 use res_io::{Gate, Inputs, Sink, SureInputs, SureSink};
 use std::alloc::Global;
@@ -133,13 +134,13 @@ fn serve_by<R: Threads + Wait + Sync, I: Inputs, K: Sink, G: Gate + Sync>(
 }
 
 /// Says that words have no reading.
-fn refuse<K: Sink>(alloc: Global, fault: UsageFault, out: &mut K) -> Status
-    ensures said { (asked : Result Command UsageFault) → Refuses fault asked → (r : Reads) → Ended (names_of asked) (Due asked) r r
+fn refuse<K: Sink>(alloc: Global, refusal: Refusal<UsageFault>, out: &mut K) -> Status
+    ensures said { (asked : Result Command UsageFault) → Refuses refusal asked → (r : Reads) → Ended (names_of asked) (Due asked) r r
         (wrote (K.written out.old) (K.faults out.old)) (wrote (K.written out.new) (K.faults out.new)) result }
-    ensures usage { (asked : Result Command UsageFault) → Refuses fault asked → IsUsage asked (number_of result) }
-    ensures waits { (asked : Result Command UsageFault) → Refuses fault asked → result ≢ status.OutOfMemory → waits asked ≡ false }
+    ensures usage { (asked : Result Command UsageFault) → Refuses refusal asked → IsUsage asked (number_of result) }
+    ensures waits { (asked : Result Command UsageFault) → Refuses refusal asked → result ≢ status.OutOfMemory → waits asked ≡ false }
 {
-    let answer = refused_words(alloc, fault);
+    let answer = refused_words(alloc, refusal);
     write_answer(out, &answer)
 }
 
@@ -175,7 +176,7 @@ pub fn run_plain<I: Inputs, K: Sink>(
                 Some(serve(alloc, command, inputs, out).number())
             }
         }
-        Err(fault) => Some(refuse(alloc, fault, out).number()),
+        Err(refusal) => Some(refuse(alloc, refusal, out).number()),
     }
 }
 
@@ -215,7 +216,7 @@ pub fn run<R: Threads + Wait + Sync, I: Inputs, K: Sink, G: Gate + Sync>(
 {
     match read_words(alloc, words) {
         Ok(command) => serve_by(rt, alloc, command, inputs, out, gate).number(),
-        Err(fault) => refuse(alloc, fault, out).number(),
+        Err(refusal) => refuse(alloc, refusal, out).number(),
     }
 }
 

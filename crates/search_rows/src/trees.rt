@@ -4,6 +4,7 @@ ghost use Rattle.tree_check.specs.Tests.{tiny_meaning, tiny_sound};
 
 use box_split::BoxBuf;
 use choice_rank::{Costs, Shape, VarShape};
+use refusal::Refusal;
 use refutation::{CheckFault, Node, Proof};
 use res_base::Items;
 use search_api::Reason;
@@ -52,7 +53,7 @@ fn four_and_three(alloc: Global) -> Result<Shape, Fail> {
 }
 
 // The answer for the tree of all choices from first position 1 on, whose least rank is 15.
-fn answer(alloc: Global, bound: u64) -> Result<Result<Option<u64>, CheckFault>, Fail> {
+fn answer(alloc: Global, bound: u64) -> Result<Result<Option<u64>, Refusal<CheckFault>>, Fail> {
     let shape = four_and_three(alloc)?;
     let _vars = shape.vars();
     let refuter = Tiny { shape, least: 1 };
@@ -94,7 +95,7 @@ fn the_least_rank_is_accepted(rt: HostRuntime) -> Result<(), Fail> {
 fn another_rank_is_refused_at_its_witness(rt: HostRuntime) -> Result<(), Fail> {
     assert_eq!(rt;
         answer(rt.alloc(), 14)?,
-        Err(CheckFault::Rejected { node: 4 })
+        Err(Refusal::Fault(CheckFault::Rejected { node: 4 }))
     );
     Ok(())
 }

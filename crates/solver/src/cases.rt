@@ -11,8 +11,9 @@ ghost use Rattle.solver.specs.Owed.{OfCase, OfProblem};
 use crate::wide::too_wide;
 use answers::{Answer, Status, says};
 use box_judge::PinClockJudge;
-use choice_rank::{ShapeFault, least_of};
-use problem::{Part, Problem, build};
+use choice_rank::least_of;
+use problem::{Part, Problem, build, wide_variable};
+use refusal::Refusal;
 use report::case_text;
 use res_base::{Items, OutOfMemory};
 use res_io::Gate;
@@ -86,7 +87,7 @@ pub fn resolve_case<R: Threads + Wait + Sync, G: Gate + Sync>(
 {
     match build(alloc, t, p, opts, Part::Whole) {
         Ok(problem) => searched(rt, alloc, number, problem, workers, gate),
-        Err(ShapeFault::TooWide { variable }) => too_wide(alloc, variable),
-        Err(ShapeFault::Memory) => Err(OutOfMemory),
+        Err(Refusal::Fault(fault)) => too_wide(alloc, wide_variable(fault)),
+        Err(Refusal::OutOfMemory) => Err(OutOfMemory),
     }
 }

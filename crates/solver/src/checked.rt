@@ -10,8 +10,8 @@ ghost use Rattle.answers.specs.declared.answer.Status.TheVariants as status;
 
 use crate::wide::too_wide;
 use answers::{Answer, Status, counts, says};
-use choice_rank::ShapeFault;
-use problem::{Part, Problem, build};
+use problem::{Part, Problem, build, wide_variable};
+use refusal::Refusal;
 use refutation::{CheckFault, Proof, ProofFault, read_proof};
 use res_base::OutOfMemory;
 use res_model::{Opts, Project, Tables};
@@ -34,6 +34,24 @@ fn rejected(alloc: Global, node: u32) -> Result<Answer, OutOfMemory>
     counts(alloc, Status::ProofRefused, "proof: node ", u64::from(node))
 }
 
+/// The first node that breaks its rule.
+fn node_of(fault: CheckFault) -> u32
+    ensures { fault ≡ CheckFault.Rejected result }
+{
+    match fault {
+        CheckFault::Rejected { node } => node,
+    }
+}
+
+/// The first line at which a text is no refutation.
+fn line_of(fault: ProofFault) -> u32
+    ensures { fault ≡ ProofFault.Line result }
+{
+    match fault {
+        ProofFault::Line { line } => line,
+    }
+}
+
 /// What is due for the nodes of a refutation.
 fn judged(alloc: Global, p: &Problem, proof: &Proof) -> Result<Answer, OutOfMemory>
     requires whole { p.now.first ≢ 0 }
@@ -42,8 +60,8 @@ fn judged(alloc: Global, p: &Problem, proof: &Proof) -> Result<Answer, OutOfMemo
 {
     match refute_check::check(alloc, p, proof) {
         Ok(bound) => accepted(alloc, bound),
-        Err(CheckFault::Rejected { node }) => rejected(alloc, node),
-        Err(CheckFault::Memory) => Err(OutOfMemory),
+        Err(Refusal::Fault(fault)) => rejected(alloc, node_of(fault)),
+        Err(Refusal::OutOfMemory) => Err(OutOfMemory),
     }
 }
 
@@ -55,13 +73,13 @@ fn checked(alloc: Global, p: &Problem, text: &[u8]) -> Result<Answer, OutOfMemor
 {
     match read_proof(alloc, text) {
         Ok(proof) => judged(alloc, p, &proof),
-        Err(ProofFault::Line { line }) => counts(
+        Err(Refusal::Fault(fault)) => counts(
             alloc,
             Status::ProofRefused,
             "proof: line ",
-            u64::from(line),
+            u64::from(line_of(fault)),
         ),
-        Err(ProofFault::Memory) => Err(OutOfMemory),
+        Err(Refusal::OutOfMemory) => Err(OutOfMemory),
     }
 }
 
@@ -82,7 +100,7 @@ pub fn check(
 {
     match build(alloc, t, p, opts, Part::Whole) {
         Ok(problem) => checked(alloc, &problem, text),
-        Err(ShapeFault::TooWide { variable }) => too_wide(alloc, variable),
-        Err(ShapeFault::Memory) => Err(OutOfMemory),
+        Err(Refusal::Fault(fault)) => too_wide(alloc, wide_variable(fault)),
+        Err(Refusal::OutOfMemory) => Err(OutOfMemory),
     }
 }

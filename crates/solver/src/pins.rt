@@ -11,8 +11,9 @@ ghost use Rattle.solver.specs.Owed.{OfPins, OfProblem};
 use crate::wide::too_wide;
 use answers::{Answer, Status, says};
 use box_judge::PinJudge;
-use choice_rank::{ShapeFault, least_of};
-use problem::{Part, Problem, build};
+use choice_rank::least_of;
+use problem::{Part, Problem, build, wide_variable};
+use refusal::Refusal;
 use report::placement_text;
 use res_base::{Items, OutOfMemory};
 use res_model::{Opts, Project, Tables};
@@ -62,7 +63,7 @@ pub fn place(alloc: Global, t: Tables, p: Project, opts: &Opts) -> Result<Answer
 {
     match build(alloc, t, p, opts, Part::PinsOnly) {
         Ok(problem) => searched(alloc, problem),
-        Err(ShapeFault::TooWide { variable }) => too_wide(alloc, variable),
-        Err(ShapeFault::Memory) => Err(OutOfMemory),
+        Err(Refusal::Fault(fault)) => too_wide(alloc, wide_variable(fault)),
+        Err(Refusal::OutOfMemory) => Err(OutOfMemory),
     }
 }

@@ -23,9 +23,10 @@ use crate::wide::too_wide;
 use access_lines::accesses_are_read;
 use answers::{Answer, Status};
 use box_judge::PinClockJudge;
-use choice_rank::{ShapeFault, least_of};
+use choice_rank::least_of;
 use choice_setup::{choices_are_allowed, generate};
-use problem::{Part, Problem, build};
+use problem::{Part, Problem, build, wide_variable};
+use refusal::Refusal;
 use reg_machine::Op;
 use report::report_text;
 use res_base::{Items, OutOfMemory};
@@ -215,7 +216,7 @@ pub fn resolve<R: Threads + Wait + Sync, G: Gate + Sync>(
 {
     match build(alloc, t, p, opts, Part::Whole) {
         Ok(problem) => searched(rt, alloc, problem, proof, workers, gate),
-        Err(ShapeFault::TooWide { variable }) => too_wide(alloc, variable),
-        Err(ShapeFault::Memory) => Err(OutOfMemory),
+        Err(Refusal::Fault(fault)) => too_wide(alloc, wide_variable(fault)),
+        Err(Refusal::OutOfMemory) => Err(OutOfMemory),
     }
 }

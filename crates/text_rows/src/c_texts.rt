@@ -3,6 +3,7 @@ ghost use Rattle.res_base.specs.Lists.{Each};
 ghost use Rattle.reg_machine.specs.Words.{IsOp};
 
 use c_print::{CFault, c_text, read_c};
+use refusal::Refusal;
 use reg_machine::{Op, Timeout};
 use reg_map::{GpioReg, Reg};
 use std::alloc::Global;
@@ -97,8 +98,8 @@ fn fault(alloc: Global, text: &[u8]) -> Result<u32, Fail> {
     }
     match read_c(alloc, text) {
         Ok(_) => Err(Fail::from("a faulty text is read")),
-        Err(CFault::Line { line }) => Ok(line),
-        Err(CFault::Memory) => Err(Fail::from("no memory")),
+        Err(Refusal::Fault(CFault::Line { line })) => Ok(line),
+        Err(Refusal::OutOfMemory) => Err(Fail::from("no memory")),
     }
 }
 

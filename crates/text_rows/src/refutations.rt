@@ -3,6 +3,7 @@ ghost use Rattle.std.specs.Prelude.{◌≡◌, IfOk, [], ◌∷◌, Some};
 ghost use Rattle.refutation.specs.Outcomes.{IsCovered};
 
 use choice_rank::{Shape, ShapeFault};
+use refusal::Refusal;
 use refutation::{Node, Proof, ProofFault, canonical, read_proof, write_proof};
 use res_base::{Items, OutOfMemory, VarSet};
 use search_api::{Cause, Class, Closed, Outcome, Reason};
@@ -96,7 +97,11 @@ fn the_first_faulty_line_is_named(rt: HostRuntime) -> Result<(), Fail> {
         assert!(rt; few);
         match read_proof(rt.alloc(), text.as_bytes()) {
             Ok(_) => return Err(Fail::from("a faulty text is read")),
-            Err(fault) => assert_eq!(rt; fault, ProofFault::Line { line }, "{text}"),
+            Err(fault) => assert_eq!(rt;
+                fault,
+                Refusal::Fault(ProofFault::Line { line }),
+                "{text}"
+            ),
         }
     }
     Ok(())

@@ -8,6 +8,7 @@ ghost use Rattle.trace_answer.specs.Due.{OfAnswers, OfRun, OfTrace};
 use crate::part::part_of;
 use answers::{Answer, Status, counts, says};
 use c_print::{CFault, read_c};
+use refusal::Refusal;
 use reg_machine::{Op, Target};
 use reg_trace::{AnswerFault, TraceFault, read_answers, trace};
 use res_base::{Items, OutOfMemory};
@@ -28,6 +29,24 @@ fn widened(line: u32) -> u64
     u64::from(line)
 }
 
+/// The first line at which a text is no list of flag answers.
+fn answers_line(fault: AnswerFault) -> u32
+    ensures { fault ≡ AnswerFault.Line result }
+{
+    match fault {
+        AnswerFault::Line { line } => line,
+    }
+}
+
+/// The first line at which a text is no C text of accesses.
+fn c_line(fault: CFault) -> u32
+    ensures { fault ≡ CFault.Line result }
+{
+    match fault {
+        CFault::Line { line } => line,
+    }
+}
+
 /// The trace of accesses, for flag answers.
 fn shown(
     alloc: Global,
@@ -45,8 +64,8 @@ fn shown(
             status: Status::Done,
             text: Items::of(text),
         }),
-        Err(TraceFault::Long) => says(alloc, Status::TraceTooLong, "trace: long"),
-        Err(TraceFault::Memory) => Err(OutOfMemory),
+        Err(Refusal::Fault(TraceFault::Long)) => says(alloc, Status::TraceTooLong, "trace: long"),
+        Err(Refusal::OutOfMemory) => Err(OutOfMemory),
     }
 }
 
@@ -64,13 +83,13 @@ fn traced(
 {
     match read_answers(alloc, answers) {
         Ok(list) => shown(alloc, t, want, ops, list.as_slice()),
-        Err(AnswerFault::Line { line }) => counts(
+        Err(Refusal::Fault(fault)) => counts(
             alloc,
             Status::AnswersRefused,
             "answers: line ",
-            widened(line),
+            widened(answers_line(fault)),
         ),
-        Err(AnswerFault::Memory) => Err(OutOfMemory),
+        Err(Refusal::OutOfMemory) => Err(OutOfMemory),
     }
 }
 
@@ -101,12 +120,12 @@ pub fn trace_answer(
             are_ops(ops.as_slice());
             traced(alloc, t, want, ops.as_slice(), answers)
         }
-        Err(CFault::Line { line }) => counts(
+        Err(Refusal::Fault(fault)) => counts(
             alloc,
             Status::CTextRefused,
             "c: line ",
-            in_file(before, line),
+            in_file(before, c_line(fault)),
         ),
-        Err(CFault::Memory) => Err(OutOfMemory),
+        Err(Refusal::OutOfMemory) => Err(OutOfMemory),
     }
 }

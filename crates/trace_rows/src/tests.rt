@@ -1,5 +1,6 @@
 //! The rows.
 use crate::asked::traced;
+use refusal::Refusal;
 use reg_trace::{AnswerFault, read_answers};
 use std::alloc::Global;
 use std::test::Fail;
@@ -93,8 +94,8 @@ fn what_is_forbidden_ends_the_run(rt: HostRuntime) -> Result<(), Fail> {
 fn count(alloc: Global, text: &[u8]) -> Result<usize, u32> {
     match read_answers(alloc, text) {
         Ok(answers) => Ok(answers.len()),
-        Err(AnswerFault::Line { line }) => Err(line),
-        Err(AnswerFault::Memory) => Err(0),
+        Err(Refusal::Fault(AnswerFault::Line { line })) => Err(line),
+        Err(Refusal::OutOfMemory) => Err(0),
     }
 }
 

@@ -4,7 +4,7 @@ use Rattle.std.specs.List.{list_any}
 use Rattle.box_split.specs.Boxes.{Run, whole, is_single, low_of, lows}
 use Rattle.search_api.specs.Meaning.{Meaning}
 use Rattle.refutation.specs.declared.node.CheckFault.{CheckFault}
-use Rattle.refutation.specs.declared.node.CheckFault.TheVariants.{Rejected, Memory}
+use Rattle.refutation.specs.declared.node.CheckFault.TheVariants.{Rejected}
 use Rattle.refutation.specs.declared.node.Node.{Node}
 use Rattle.refutation.specs.declared.node.Node.TheVariants as node
 use Rattle.refutation.specs.Outcomes.{is_below}
@@ -63,7 +63,6 @@ first_of None later = later
 unfoldable pub fault_at : Meaning → Option ℕ → List Node → Option ℕ
 fault_at m bound nodes = first_of (fault_from m bound 0 nodes (whole m.shape ∷ [])) (fault_of_witness bound nodes)
 
--- the nodes are not accepted, and the fault names the first that is at fault; memory may always run out
+-- the nodes are not accepted, and the fault names the first that is at fault
 abbrev pub IsRejected : Meaning → Option ℕ → List Node → CheckFault → Type 0
 IsRejected m bound nodes (Rejected number) = (fault_at m bound nodes ≡ Some number) × (IsAccepted m bound nodes → ⊥)
-IsRejected m bound nodes Memory = Unit {0}

@@ -1,6 +1,7 @@
 //! The checker of proofs over a refuter.
 ghost use Rattle.std.specs.Prelude.{◌≡◌, ◌<◌, ◌^◌, ◌∷◌, [], length, IfOk, IfErr, OnOk};
 ghost use Rattle.std.specs.List.{list_any};
+ghost use Rattle.refusal.specs.Refusals.{IfFault};
 ghost use Rattle.choice_rank.specs.Least.{IsAnswer};
 ghost use Rattle.box_split.specs.Boxes.{whole};
 ghost use Rattle.refutation.specs.Trees.{IsAccepted};
@@ -9,6 +10,7 @@ ghost use Rattle.tree_check.specs.Faults.{fault_at, fault_from, fault_of_witness
 use crate::refuter::Refuter;
 use crate::rules::{is_witness_leaf, keeps_rule};
 use crate::stack::{all_due, push_parts};
+use refusal::Refusal;
 use refutation::{CheckFault, Node, Proof};
 use res_base::OutOfMemory;
 use std::alloc::Global;
@@ -18,19 +20,23 @@ use std::alloc::Global;
 /// A proof is refused exactly where it is not accepted, with the first node, from 0, that breaks
 /// its rule; that is also a node after the tree is whole. It is the number of nodes where they end
 /// before the tree is whole, or where each keeps its rule and the bound has no witness.
-pub fn check<R: Refuter>(alloc: Global, r: &R, proof: &Proof) -> Result<Option<u64>, CheckFault>
+pub fn check<R: Refuter>(
+    alloc: Global,
+    r: &R,
+    proof: &Proof,
+) -> Result<Option<u64>, Refusal<CheckFault>>
     requires serves { R.serves r.now }
     requires few { length proof.now.nodes < 2 ^ 32 }
     ensures bound { IfOk result (λ bound. bound ≡ proof.now.bound) }
     ensures accepted { OnOk result (IsAccepted (R.meaning r.now) proof.now.bound proof.now.nodes) }
     ensures answer { OnOk result (IsAnswer (R.meaning r.now).shape (R.meaning r.now).legal proof.now.bound) }
-    ensures rejected { IfErr result (IsRejected (R.meaning r.now) proof.now.bound proof.now.nodes) }
+    ensures rejected { IfErr result (λ e. IfFault e (IsRejected (R.meaning r.now) proof.now.bound proof.now.nodes)) }
 {
     let nodes = proof.nodes.as_slice();
     match fault_at(alloc, r, proof.bound, nodes) {
         Ok(None) => Ok(proof.bound),
-        Ok(Some(node)) => Err(CheckFault::Rejected { node }),
-        Err(_) => Err(CheckFault::Memory),
+        Ok(Some(node)) => Err(Refusal::Fault(CheckFault::Rejected { node })),
+        Err(_) => Err(Refusal::OutOfMemory),
     }
 }
 

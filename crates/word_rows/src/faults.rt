@@ -1,5 +1,6 @@
 //! Lines of words that have no reading, and the first word that is not allowed.
 use cmd_words::{UsageFault, read_words};
+use refusal::Refusal;
 use std::alloc::Global;
 use std::test::Fail;
 
@@ -16,7 +17,7 @@ pub(crate) fn words_of(alloc: Global, line: &str) -> Result<Vec<String>, Fail> {
 fn fault(alloc: Global, line: &str) -> Result<usize, Fail> {
     let words = words_of(alloc, line)?;
     match read_words(alloc, words.as_slice()) {
-        Err(UsageFault::Word { word }) => Ok(word),
+        Err(Refusal::Fault(UsageFault::Word { word })) => Ok(word),
         _ => Ok(0),
     }
 }
@@ -24,7 +25,7 @@ fn fault(alloc: Global, line: &str) -> Result<usize, Fail> {
 #[test]
 fn no_words_have_no_first_one(rt: HostRuntime) -> Result<(), Fail> {
     match read_words(rt.alloc(), &[]) {
-        Err(UsageFault::Word { word }) => assert_eq!(rt; word, 1),
+        Err(Refusal::Fault(UsageFault::Word { word })) => assert_eq!(rt; word, 1),
         _ => panic!(rt; "no words were read"),
     }
     Ok(())

@@ -1,4 +1,9 @@
-use Rattle.std.proofs.Common.{◌∙◌, subst}
+use Rattle.std.proofs.Common.{◌∙◌, List, refl}
+use Rattle.refusal.proofs.RefusalLemmas.{fault_is}
+use Rattle.choice_rank.specs.Choices.{IsNarrow}
+use Rattle.choice_rank.specs.declared.shape.ShapeFault.{ShapeFault}
+use Rattle.choice_rank.specs.declared.shape.ShapeFault.TheVariants.{TooWide}
+use Rattle.choice_rank.specs.declared.variable.VarShape.{VarShape}
 use Rattle.problem.specs.Problem.{IsRefused, shape_of}
 use Rattle.problem.specs.declared.parts.Part.TheVariants.{Whole}
 use Rattle.board_fit.proofs.BesideLemmas as beside
@@ -22,7 +27,12 @@ build-requires-clause-homes c = (beside.board_is c.args.t c.args.p c.args.opts.n
 pub returns-in-Ok : goal.returns-in-Ok
 returns-in-Ok c = c.in-Ok.ensures.problem ∙ beside.problem_is c.args.t c.args.p c.args.opts.now c.args.q.now c.args.at.now c.fixed.result c.requires.pins c.fixed.ensures
 
+never_wide : (vs : List VarShape) (fault : ShapeFault) → IsRefused vs fault → IsNarrow vs → ⊥
+never_wide vs (TooWide variable) refused narrow = refused.0 narrow
+
 pub unreachable-requires : goal.unreachable-requires
 unreachable-requires c =
-    let refused = subst (IsRefused (shape_of c.args.t c.fixed.result c.args.opts.now Whole)) c.in-Err-TooWide.field-0-is c.in-Err-TooWide.ensures.refused in
-    refused.0 (beside.narrow_is c.args.t c.args.p c.args.opts.now c.args.q.now c.args.at.now c.fixed.result c.requires.board c.requires.pins c.requires.placement c.fixed.ensures)
+    let vs = shape_of c.args.t c.fixed.result c.args.opts.now Whole in
+    never_wide vs c.in-Err-Fault.field-0-0
+    (fault_is (IsRefused vs) c.in-Err-Fault.field-0 c.in-Err-Fault.field-0-0 _ c.in-Err-Fault.field-0-is refl c.in-Err-Fault.ensures.refused)
+    (beside.narrow_is c.args.t c.args.p c.args.opts.now c.args.q.now c.args.at.now c.fixed.result c.requires.board c.requires.pins c.requires.placement c.fixed.ensures)

@@ -1,7 +1,7 @@
 use Rattle.std.proofs.Common.{ℕ, ◌+◌, List, [], ◌++◌, take, get_or, refl, sym, ap, ◌∙◌}
 use Rattle.std.specs.List.{concat}
 use Rattle.c_print.specs.Text.{frame}
-use Rattle.c_print.proofs.FrontLemmas.{join}
+use Rattle.c_print.proofs.PrefixLemmas.{join}
 use Rattle.c_print.proofs.WriteLemmas.{frame_more}
 use Rattle.c_print.proofs.ReadLemmas.{within_frame}
 use Rattle.c_print.proofs.read.after_frame.Goals as goal

@@ -7,7 +7,7 @@ use Rattle.res_base.proofs.ListLemmas.{each_push}
 use Rattle.reg_machine.specs.declared.op.Op.{Op}
 use Rattle.c_print.specs.Text.{op_line, awaits_over}
 use Rattle.c_print.specs.Reading.{FitsLine}
-use Rattle.c_print.proofs.FrontLemmas.{join}
+use Rattle.c_print.proofs.PrefixLemmas.{join}
 use Rattle.c_print.proofs.LineLemmas.{line_long}
 use Rattle.c_print.proofs.WithinLemmas.{all_named}
 use Rattle.c_print.proofs.WriteLemmas.{op_more}

@@ -2,7 +2,7 @@ use Rattle.std.proofs.Common.{rules, ◌≡◌, ℕ, ◌+◌, ◌<◌, List, [],
 use Rattle.std.specs.List.{concat}
 use Rattle.c_print.specs.declared.part.Part.TheVariants as part
 use Rattle.c_print.specs.Text.{part_text, op_line, awaits_over, frame}
-use Rattle.c_print.specs.Fronts.{BeginsNone, FitsFrame}
+use Rattle.c_print.specs.Prefixes.{BeginsNone, FitsFrame}
 use Rattle.c_print.proofs.LineLemmas.{frame_long}
 use Rattle.c_print.proofs.WithinLemmas.{as_named, not_due}
 use Rattle.c_print.proofs.ReadLemmas.{no_op_nor_return, return_not_due, no_close, past_end, is_text}

@@ -1,7 +1,7 @@
 use Rattle.std.proofs.Common.{◌≡◌, ◌∙◌, Global, List, String, ℕ, ap, drop, map, subst, sym, take}
 use Rattle.std.proofs.lemmas.List.{drop-map, take-map}
 use Rattle.std.specs.Prelude.{string_bytes}
-use Rattle.cmd_words.specs.UsageFaults.{Gives}
+use Rattle.refusal.specs.Refusals.{Gives}
 use Rattle.cmd_words.specs.Words.{names_before, requested}
 use Rattle.cmd_words.proofs.requests.read_rest.Goals as goal
 

@@ -1,6 +1,6 @@
 use Rattle.std.proofs.Common.{◌≢◌, subst, sym, arith}
 use Rattle.std.proofs.lemmas.Result.{IfOk-weaker}
-use Rattle.choice_rank.specs.declared.shape.ShapeFault.{ShapeFault}
+use Rattle.refusal.proofs.RefusalLemmas.{fault_is}
 use Rattle.choice_rank.specs.declared.shape.ShapeFault.TheVariants.{TooWide}
 use Rattle.problem.specs.Problem.{IsRefused, problem_of}
 use Rattle.problem.specs.declared.parts.Part.TheVariants.{Whole}
@@ -17,9 +17,10 @@ unfolding problem_of
 returns-in-Ok c =
     IfOk-weaker c.least_cost.result _ _ (λ cost due. narrow c.in-Ok.ensures.narrow (subst (λ (q : ProblemParts). IsLeastCost q cost) c.in-Ok.ensures.problem due)) c.least_cost.ensures
 
-pub returns-in-Err-TooWide : goal.returns-in-Err-TooWide
+pub returns-in-Err-Fault : goal.returns-in-Err-Fault
 unfolding problem_of
-returns-in-Err-TooWide c =
+returns-in-Err-Fault c =
     let q = problem_of c.args.t c.args.p c.args.opts.now Whole in
-    let refused : IsRefused q.shape (TooWide c.in-Err-TooWide.variable) = subst (λ (f : ShapeFault). IsRefused q.shape f) c.in-Err-TooWide.field-0-is c.in-Err-TooWide.ensures.refused in
+    let is = rw c.in-Err-Fault.field-0-is at c.wide_variable.ensures in
+    let refused : IsRefused q.shape (TooWide c.wide_variable.result) = fault_is (IsRefused q.shape) c.in-Err-Fault.field-0 c.in-Err-Fault.fault _ c.in-Err-Fault.field-0-is is c.in-Err-Fault.ensures.refused in
     IfOk-weaker c.wide_cost.result _ _ (λ cost none. wide refused.0 none) c.wide_cost.ensures

@@ -18,7 +18,7 @@ returns-in_err-defaults c =
     let w = defaults c.in_ok-clock.clock (view c.args.root.now) in
     let P : Result TableParts TableFault → Type 0 = λ r. Reads (λ (t : TableParts). t) c.from_residual-in_err-defaults.result r in
     let is : c.from_residual-in_err-defaults.result ≡ Err c.in_err-defaults.field-0.0 = search rules in
-    subst P (sym e) (refused_reads c.in_err-defaults.field-0.0 c.from_residual-in_err-defaults.result w _ is c.in_err-defaults.ensures)
+    subst P (sym e) (refused_reads c.in_err-defaults.field-0.0 (λ x. x) c.from_residual-in_err-defaults.result w _ is c.in_err-defaults.ensures)
 
 pub returns : goal.returns
 returns c =

@@ -1,7 +1,6 @@
-use Rattle.std.proofs.Common.{subst}
 use Rattle.std.proofs.lemmas.Result.{IfOk-weaker}
+use Rattle.refusal.proofs.RefusalLemmas.{fault_is}
 use Rattle.dma_rules.specs.Wanted.{IsRefused}
-use Rattle.dma_rules.specs.declared.want.DmaFault.{DmaFault}
 use Rattle.resolver.specs.Requests.{refused, wanted}
 use Rattle.resolver.proofs.StatusLemmas.{of_request, of_want}
 use Rattle.resolver.proofs.streams.requested.Goals as goal
@@ -12,10 +11,10 @@ returns-in-Ok-clause-due g c = IfOk-weaker c.dma_answer.result _ _ (λ a due. wa
 pub returns-in-Ok-clause-status : goal.returns-in-Ok-clause-status
 returns-in-Ok-clause-status g c = IfOk-weaker c.dma_answer.result _ _ (λ a due. of_want c.in-Ok.want a due) c.dma_answer.ensures
 
-pub returns-in-Err-Request-clause-due : goal.returns-in-Err-Request-clause-due
-returns-in-Err-Request-clause-due g c =
-    let first = subst (λ (f : DmaFault). IsRefused c.args.table.now c.args.words.now f) c.in-Err-Request.field-0-is c.in-Err-Request.ensures.refused in
-    IfOk-weaker c.counts.result _ _ (λ a says. refused c.in-Err-Request.number first says) c.counts.ensures
+pub returns-in-Err-Fault-clause-due : goal.returns-in-Err-Fault-clause-due
+returns-in-Err-Fault-clause-due g c =
+    let first = fault_is (IsRefused c.args.table.now c.args.words.now) c.in-Err-Fault.field-0 c.in-Err-Fault.fault _ c.in-Err-Fault.field-0-is c.number_of.ensures c.in-Err-Fault.ensures.refused in
+    IfOk-weaker c.counts.result _ _ (λ a says. refused c.number_of.result first says) c.counts.ensures
 
-pub returns-in-Err-Request-clause-status : goal.returns-in-Err-Request-clause-status
-returns-in-Err-Request-clause-status g c = IfOk-weaker c.counts.result _ _ (λ a says. of_request a _ says) c.counts.ensures
+pub returns-in-Err-Fault-clause-status : goal.returns-in-Err-Fault-clause-status
+returns-in-Err-Fault-clause-status g c = IfOk-weaker c.counts.result _ _ (λ a says. of_request a _ says) c.counts.ensures

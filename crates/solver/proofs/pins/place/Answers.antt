@@ -1,6 +1,6 @@
 use Rattle.std.proofs.Common.{◌≡◌, refl, subst, sym}
 use Rattle.std.proofs.lemmas.Result.{IfOk-weaker}
-use Rattle.choice_rank.specs.declared.shape.ShapeFault.{ShapeFault}
+use Rattle.refusal.proofs.RefusalLemmas.{fault_is}
 use Rattle.choice_rank.specs.declared.shape.ShapeFault.TheVariants.{TooWide}
 use Rattle.problem.specs.Problem.{IsRefused, problem_of}
 use Rattle.problem.specs.declared.parts.Part.TheVariants.{PinsOnly}
@@ -17,9 +17,9 @@ unfolding problem_of
 returns-in-Ok c =
     IfOk-weaker c.searched.result _ _ (λ a due. narrow c.in-Ok.ensures.narrow (subst (λ (q : ProblemParts). OfPins q a) c.in-Ok.ensures.problem due)) c.searched.ensures
 
-pub returns-in-Err-TooWide : goal.returns-in-Err-TooWide
+pub returns-in-Err-Fault : goal.returns-in-Err-Fault
 unfolding problem_of
-returns-in-Err-TooWide c =
+returns-in-Err-Fault c =
     let q = problem_of c.args.t c.args.p c.args.opts.now PinsOnly in
-    let refused : IsRefused q.shape (TooWide c.in-Err-TooWide.variable) = subst (λ (f : ShapeFault). IsRefused q.shape f) c.in-Err-TooWide.field-0-is c.in-Err-TooWide.ensures.refused in
-    IfOk-weaker c.too_wide.result _ _ (λ a says. wide c.in-Err-TooWide.variable refused.0 refused.1 says) c.too_wide.ensures
+    let refused : IsRefused q.shape (TooWide c.wide_variable.result) = fault_is (IsRefused q.shape) c.in-Err-Fault.field-0 c.in-Err-Fault.fault _ c.in-Err-Fault.field-0-is c.wide_variable.ensures c.in-Err-Fault.ensures.refused in
+    IfOk-weaker c.too_wide.result _ _ (λ a says. wide c.wide_variable.result refused.0 refused.1 says) c.too_wide.ensures
