@@ -271,15 +271,15 @@ any_range : (p : PinUse → Bool) (r : Run) (us : List PinUse) → list_any p (u
 any_range p r us e = any_drop p r.low us (any_take p (r.high + 1 - r.low) (drop r.low us) e)
 
 one_there : (p : PinUse → Bool) (us : List PinUse) (x : ℕ) (u : PinUse) → slice_get us x ≡ Some u → p u ≡ true → list_any p (uses_in us record { low = x; high = x }) ≡ true
-one_there p us x u is ok = ap (λ (n : ℕ). list_any p (take n (drop x us))) (one x) ∙ at_front us x is
+one_there p us x u is ok = ap (λ (n : ℕ). list_any p (take n (drop x us))) (one x) ∙ at_prefix us x is
   where
     one : (n : ℕ) → n + 1 - n ≡ 1
     one n = omega arith
 
-    at_front : (ws : List PinUse) (n : ℕ) → slice_get ws n ≡ Some u → list_any p (take 1 (drop n ws)) ≡ true
-    at_front [] n e = absurd cc
-    at_front (w ∷ ws) zero e = let same : w ≡ u = cc in rw same (ap (λ (b : Bool). b || false) ok)
-    at_front (w ∷ ws) (suc n) e = at_front ws n e
+    at_prefix : (ws : List PinUse) (n : ℕ) → slice_get ws n ≡ Some u → list_any p (take 1 (drop n ws)) ≡ true
+    at_prefix [] n e = absurd cc
+    at_prefix (w ∷ ws) zero e = let same : w ≡ u = cc in rw same (ap (λ (b : Bool). b || false) ok)
+    at_prefix (w ∷ ws) (suc n) e = at_prefix ws n e
 
 -- each signal competes for pins
 all_members : (s : ℕ) (uses : List (List PinUse)) (i : ℕ) → i < length uses → get_or (members_of Pins s uses) i 0 ≡ s + i

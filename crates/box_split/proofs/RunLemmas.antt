@@ -59,9 +59,9 @@ cut_inside r h = (grind (arith, nat_tests), grind (arith, nat_tests))
 pub parted : (l k u x : ℕ) (rest : Bool) → l ≤ k → k < u → one_if ((leb l x && leb x k) && rest) + one_if ((leb (k + 1) x && leb x u) && rest) ≡ one_if ((leb l x && leb x u) && rest)
 parted l k u x rest p q = grind (arith, nat_tests)
 
-pub same_front : (b x y z : Bool) → one_if x + one_if y ≡ one_if z → one_if (b && x) + one_if (b && y) ≡ one_if (b && z)
-same_front true x y z h = h
-same_front false x y z h = refl
+pub same_prefix : (b x y z : Bool) → one_if x + one_if y ≡ one_if z → one_if (b && x) + one_if (b && y) ≡ one_if (b && z)
+same_prefix true x y z h = h
+same_prefix false x y z h = refl
 
 pub lt_tells : (a b : ℕ) → ((ltb a b ≡ true) × (a < b)) ⊎ ((ltb a b ≡ false) × (b ≤ a))
 lt_tells a b = grind (arith, nat_tests)
@@ -77,7 +77,7 @@ halved (r ∷ rs) (x ∷ xs) h = elim (lt_tells r.low r.high) [
   | inl y ↦ let c = cut_inside r y.1 in rw y.0 (parted r.low (cut_of r) r.high x (holds rs xs) c.0 c.1)
   | inr n ↦
       let rest : is_single rs ≡ false = not_first (leb r.high r.low) (is_single rs) (grind (arith, nat_tests, n.1)) h in
-      rw n.0 (same_front (leb r.low x && leb x r.high) (holds (lower rs) xs) (holds (upper rs) xs) (holds rs xs) (halved rs xs rest))
+      rw n.0 (same_prefix (leb r.low x && leb x r.high) (holds (lower rs) xs) (holds (upper rs) xs) (holds rs xs) (halved rs xs rest))
 ]
 
 -- ---- paths

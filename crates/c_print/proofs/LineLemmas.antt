@@ -361,8 +361,8 @@ each_take P zero xs h = tt
 each_take P (suc n) [] h = tt
 each_take P (suc n) (x ∷ xs) h = (h.0, each_take P n xs h.1)
 
-pub frame_front : (over : Bool) (n : ℕ) (rest : List ℕ) → lines_of (concat (take n (frame over)) ++ rest) ≡ take n (frame over) ++ lines_of rest
-frame_front over n rest = lines_then (take n (frame over)) rest (each_take IsLine n (frame over) (frame_is_lines over))
+pub frame_prefix : (over : Bool) (n : ℕ) (rest : List ℕ) → lines_of (concat (take n (frame over)) ++ rest) ≡ take n (frame over) ++ lines_of rest
+frame_prefix over n rest = lines_then (take n (frame over)) rest (each_take IsLine n (frame over) (frame_is_lines over))
 
 pub ops_then_lines : (ops : List Op) (rest : List ℕ) → Each FitsLine ops → lines_of (concat (map op_line ops) ++ rest) ≡ map op_line ops ++ lines_of rest
 ops_then_lines ops rest f = lines_then (map op_line ops) rest (ops_are_lines ops f)

@@ -155,9 +155,9 @@ no_place at len e = elim (bool_cases (ltb at len)) [
   | inr t ↦ grind (arith, nat_tests)
 ]
 
-record Cut (byte : ℕ) (text front rest : List ℕ) : Type 0 where
-  is : text ≡ front ++ byte ∷ rest
-  none : HasNo byte front
+record Cut (byte : ℕ) (text prefix rest : List ℕ) : Type 0 where
+  is : text ≡ prefix ++ byte ∷ rest
+  none : HasNo byte prefix
 
 cut_at : (byte : ℕ) (text : List ℕ) → position_or_len (λ b. eqb b byte) text < length text →
     Cut byte text (take (position_or_len (λ b. eqb b byte) text) text) (drop (position_or_len (λ b. eqb b byte) text + 1) text)

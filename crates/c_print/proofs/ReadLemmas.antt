@@ -13,7 +13,7 @@ use Rattle.c_print.specs.Text.{part_text, op_line, is_over_op, awaits_over, fram
 use Rattle.c_print.specs.Reading.{FitsLine, lines_of, AgreesFor, DepartsAt, Reads}
 use Rattle.c_print.specs.Prefixes.{BeginsNone, IsFrameLine, FitsFrame}
 use Rattle.c_print.proofs.FrameLemmas.{same_frame}
-use Rattle.c_print.proofs.LineLemmas.{op_apart, not_return, joined, after_frame_lines, frame_front, ops_then_lines, return_then, close_then, text_parts, text_lines}
+use Rattle.c_print.proofs.LineLemmas.{op_apart, not_return, joined, after_frame_lines, frame_prefix, ops_then_lines, return_then, close_then, text_parts, text_lines}
 
 -- ---- six lines more, and a line for each op more
 abbrev six : ℕ → ℕ
@@ -153,7 +153,7 @@ return_not_due text ops body rest line f w t b no_op n =
         ops ++ late ∷ [],
         with_late ops f,
         ap (λ ls. take (six (past_ops ops 0)) ls) is.lines
-            ∙ frame_same true (past_ops ops 0) (map op_line ops ++ lines_of rest) (body_lines (ops ++ late ∷ [])) (front_same ops (lines_of rest))
+            ∙ frame_same true (past_ops ops 0) (map op_line ops ++ lines_of rest) (body_lines (ops ++ late ∷ [])) (prefix_same ops (lines_of rest))
             ∙ ap (λ o. take (six (past_ops ops 0)) (frame o ++ body_lines (ops ++ late ∷ []))) (sym (is_awaited ops)),
       );
       not_here = λ a. differs_behind true text ops rest 1 is none (subst (λ m. AgreesFor m text) two a);
@@ -171,9 +171,9 @@ return_not_due text ops body rest line f w t b no_op n =
         or_true true = refl
         or_true false = refl
 
-    front_same : (os : List Op) (ls : List (List ℕ)) → take (past_ops os 0) (map op_line os ++ ls) ≡ take (past_ops os 0) (body_lines (os ++ late ∷ []))
-    front_same [] ls = refl
-    front_same (o ∷ os) ls = ap (λ xs. op_line o ∷ xs) (front_same os ls)
+    prefix_same : (os : List Op) (ls : List (List ℕ)) → take (past_ops os 0) (map op_line os ++ ls) ≡ take (past_ops os 0) (body_lines (os ++ late ∷ []))
+    prefix_same [] ls = refl
+    prefix_same (o ∷ os) ls = ap (λ xs. op_line o ∷ xs) (prefix_same os ls)
 
     none : GoesOnAsNone (awaits_over ops) true 1 (lines_of rest)
     none [] g o e = let z : false ≡ true = sym (ap (λ b. b || false) w) ∙ o in absurd cc
@@ -214,10 +214,10 @@ past_end over text ops body rest last more line f w t b r c some n =
     none (p ∷ ps) g e = not_return p (sym (head_same (part_text part.Return) (op_line p) (part_text part.Close ∷ take 1 (lines_of more)) (take 2 (body_lines ps)) e).0)
 
 -- ---- a text that departs within the frame
-take_front : (n : ℕ) (xs ys zs : List (List ℕ)) → n ≤ length xs → take n (take n xs ++ ys) ≡ take n (xs ++ zs)
-take_front zero xs ys zs l = refl
-take_front (suc n) [] ys zs l = absurd (omega arith)
-take_front (suc n) (x ∷ xs) ys zs l = ap (λ ls. x ∷ ls) (take_front n xs ys zs (omega arith))
+take_prefix : (n : ℕ) (xs ys zs : List (List ℕ)) → n ≤ length xs → take n (take n xs ++ ys) ≡ take n (xs ++ zs)
+take_prefix zero xs ys zs l = refl
+take_prefix (suc n) [] ys zs l = absurd (omega arith)
+take_prefix (suc n) (x ∷ xs) ys zs l = ap (λ ls. x ∷ ls) (take_prefix n xs ys zs (omega arith))
 
 place_line : (n : ℕ) (xs xs' ys zs : List (List ℕ)) → n < length xs → n < length xs' → take (suc n) (take n xs ++ ys) ≡ take (suc n) (xs' ++ zs) → (take n xs' ≡ take n xs) × (take 1 ys ≡ get_or xs' n [] ∷ [])
 place_line n [] xs' ys zs l m e = absurd (omega arith)
@@ -240,11 +240,11 @@ within_frame over text place rest line l t none n =
     }
   where
     lines : (o : Bool) → text ≡ concat (take place (frame o)) ++ rest → lines_of text ≡ take place (frame o) ++ lines_of rest
-    lines o e = ap lines_of e ∙ frame_front o place rest
+    lines o e = ap lines_of e ∙ frame_prefix o place rest
 
     agrees : (o : Bool) → text ≡ concat (take place (frame o)) ++ rest → AgreesFor place text
-    agrees true e = (late ∷ [], (late_fits, tt), ap (take place) (lines true e) ∙ take_front place (frame true) (lines_of rest) (body_lines (late ∷ [])) (omega (arith, l)))
-    agrees false e = ([], tt, ap (take place) (lines false e) ∙ take_front place (frame false) (lines_of rest) last_lines (omega (arith, l)))
+    agrees true e = (late ∷ [], (late_fits, tt), ap (take place) (lines true e) ∙ take_prefix place (frame true) (lines_of rest) (body_lines (late ∷ [])) (omega (arith, l)))
+    agrees false e = ([], tt, ap (take place) (lines false e) ∙ take_prefix place (frame false) (lines_of rest) last_lines (omega (arith, l)))
 
     differs : AgreesFor (suc place) text → ⊥
     differs a =

@@ -21,9 +21,9 @@ op_more (p ∷ os) o = ap (λ xs. op_line p ++ xs) (op_more os o) ∙ sym (appen
 -- the parts of a C text, put one behind the other
 pub in_order : (ops : List Op) → ((concat (frame (awaits_over ops)) ++ concat (map op_line ops)) ++ part_text part.Return) ++ part_text part.Close ≡ c_text_of ops
 in_order ops =
-    let front = concat (frame (awaits_over ops)) in
+    let prefix = concat (frame (awaits_over ops)) in
     let body = concat (map op_line ops) in
     let r = part_text part.Return in
     let z = part_text part.Close in
-    append_assoc (front ++ body) r z ∙ append_assoc front body (r ++ z)
-    ∙ ap (λ xs. front ++ (body ++ (r ++ xs))) (sym (append-nil z)) ∙ sym (text_parts ops)
+    append_assoc (prefix ++ body) r z ∙ append_assoc prefix body (r ++ z)
+    ∙ ap (λ xs. prefix ++ (body ++ (r ++ xs))) (sym (append-nil z)) ∙ sym (text_parts ops)

@@ -41,7 +41,7 @@ choices_take vs zero h = choices_pos vs h
 choices_take [] (suc i) h = omega arith
 choices_take (v ∷ vs) (suc i) h = mul-le v.size (choices_of (take i vs)) v.size (choices_of vs) (omega arith) (choices_take vs i h.1)
 
--- the front of a narrow shape is narrow
+-- the prefix of a narrow shape is narrow
 pub narrow_take : (vs : List VarShape) (i : ℕ) → HasPositions vs → IsNarrow vs → IsNarrow (take i vs)
 narrow_take vs i h n =
     omega (arith, mul-le (1 + costs_most (take i vs)) (choices_of (take i vs)) (1 + costs_most vs) (choices_of vs) (omega (arith, costs_take vs i)) (choices_take vs i h))

@@ -86,9 +86,9 @@ narrow mode.Exti h = tt
 narrow mode.Osc h = tt
 narrow mode.Held h = tt
 
-front_use : (o : Option PinUse) (rest : List PinUse) → ((u : PinUse) → o ≡ Some u → IsFunction u.mode) → HaveFunctions rest → HaveFunctions (option_to_list o ++ rest)
-front_use None rest f h = h
-front_use (Some u) rest f h = (f u refl, h)
+prefix_use : (o : Option PinUse) (rest : List PinUse) → ((u : PinUse) → o ≡ Some u → IsFunction u.mode) → HaveFunctions rest → HaveFunctions (option_to_list o ++ rest)
+prefix_use None rest f h = h
+prefix_use (Some u) rest f h = (f u refl, h)
 
 got_function : (us : List PinUse) (i : ℕ) (u : PinUse) → HaveFunctions us → slice_get us i ≡ Some u → IsFunction u.mode
 got_function [] i u h e = absurd cc
@@ -98,7 +98,7 @@ got_function (w ∷ ws) (suc i) u h e = got_function ws i u h.1 e
 uses_functions : (uses : List (List PinUse)) (at : List ℕ) → Each HaveFunctions uses → HaveFunctions (uses_at uses at)
 uses_functions [] at h = tt
 uses_functions (values ∷ rest) [] h = tt
-uses_functions (values ∷ rest) (i ∷ at) h = front_use (slice_get values i) (uses_at rest at) (λ u e. got_function values i u h.0 e) (uses_functions rest at h.1)
+uses_functions (values ∷ rest) (i ∷ at) h = prefix_use (slice_get values i) (uses_at rest at) (λ u e. got_function values i u h.0 e) (uses_functions rest at h.1)
 
 narrow_setup : (t : TableParts) (s : Signal) (u : PinUse) (v : Setup) → IsFunction u.mode → ◌≡◌ {A = Option Setup} (Some (setup_of t s u)) (Some v) → IsNarrow v.mode
 narrow_setup t s u v h e = let same : setup_of t s u ≡ v = cc in subst (λ (x : Setup). IsNarrow x.mode) same (narrow u.mode h)

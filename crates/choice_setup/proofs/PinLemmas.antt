@@ -70,8 +70,8 @@ module _ (t : TableParts) (s : Signal) (ss : List Signal) (u : PinUse) (us : Lis
   abbrev later : List (Option Setup)
   later = map (setup_at t ss us) (numbers_from n 0)
 
-  front_at : (i : ℕ) → i < n → ◌≡◌ {A = Option Setup} (get_or (set later (place_of t u.pin) (Some (setup_of t s u))) i None) (setup_at t (s ∷ ss) (u ∷ us) i)
-  front_at i l = case (place_of t u.pin == i) refl
+  prefix_at : (i : ℕ) → i < n → ◌≡◌ {A = Option Setup} (get_or (set later (place_of t u.pin) (Some (setup_of t s u))) i None) (setup_at t (s ∷ ss) (u ∷ us) i)
+  prefix_at i l = case (place_of t u.pin == i) refl
     where
       case : (b : Bool) → (place_of t u.pin == i) ≡ b → ◌≡◌ {A = Option Setup} (get_or (set later (place_of t u.pin) (Some (setup_of t s u))) i None) (cond b (Some (setup_of t s u)) (setup_at t ss us i))
       case true q =
@@ -81,16 +81,16 @@ module _ (t : TableParts) (s : Signal) (ss : List Signal) (u : PinUse) (us : Lis
           let apart : i ≢ place_of t u.pin = λ e. grind (arith, nat_tests, q, e) in
           get_or-set_other later (place_of t u.pin) i (Some (setup_of t s u)) None apart ∙ at_place (setup_at t ss us) n 0 i i (omega arith) l
 
-  front_map : set later (place_of t u.pin) (Some (setup_of t s u)) ≡ map (setup_at t (s ∷ ss) (u ∷ us)) (numbers_from n 0)
-  front_map =
+  prefix_map : set later (place_of t u.pin) (Some (setup_of t s u)) ≡ map (setup_at t (s ∷ ss) (u ∷ us)) (numbers_from n 0)
+  prefix_map =
       let size = length-set later (place_of t u.pin) (Some (setup_of t s u)) ∙ long (setup_at t ss us) n 0 in
       ext_get_or None (set later (place_of t u.pin) (Some (setup_of t s u))) (map (setup_at t (s ∷ ss) (u ∷ us)) (numbers_from n 0))
       (size ∙ sym (long (setup_at t (s ∷ ss) (u ∷ us)) n 0))
-      (λ i l. let below : i < n = omega (arith, l, size) in front_at i below ∙ sym (at_place (setup_at t (s ∷ ss) (u ∷ us)) n 0 i i (omega arith) below))
+      (λ i l. let below : i < n = omega (arith, l, size) in prefix_at i below ∙ sym (at_place (setup_at t (s ∷ ss) (u ∷ us)) n 0 i i (omega arith) below))
 
-front_set : (t : TableParts) (s : Signal) (ss : List Signal) (u : PinUse) (us : List PinUse) → place_of t u.pin < 144 → set (setups_of t ss us) (place_of t u.pin) (Some (setup_of t s u)) ≡ setups_of t (s ∷ ss) (u ∷ us)
+prefix_set : (t : TableParts) (s : Signal) (ss : List Signal) (u : PinUse) (us : List PinUse) → place_of t u.pin < 144 → set (setups_of t ss us) (place_of t u.pin) (Some (setup_of t s u)) ≡ setups_of t (s ∷ ss) (u ∷ us)
 unfolding setups_of places
-front_set t s ss u us within = front_map t s ss u us 144 within
+prefix_set t s ss u us within = prefix_map t s ss u us 144 within
 
 none_set : (t : TableParts) (us : List PinUse) → setups_of t [] us ≡ replicate 144 None
 unfolding setups_of places
@@ -108,7 +108,7 @@ signal_set p at k place s u l is used there within =
     let here : place_of p.tables u.pin < 144 = omega (arith, there, within) in
     let signals : s ∷ ss ≡ drop k p.signals = ap (λ (x : Signal). x ∷ ss) is ∙ ap (λ (n : ℕ). get_or p.signals k s ∷ drop n p.signals) (add-one k) ∙ sym (drop-cons p.signals k s l) in
     ap (λ (n : ℕ). set (setups_of p.tables ss us) n (Some (setup_of p.tables s u))) there
-    ∙ front_set p.tables s ss u us here
+    ∙ prefix_set p.tables s ss u us here
     ∙ ap (λ (xs : List Signal). setups_of p.tables xs (u ∷ us)) signals
     ∙ ap (λ (xs : List PinUse). setups_of p.tables (drop k p.signals) xs) (sym used)
 

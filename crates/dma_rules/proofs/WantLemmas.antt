@@ -107,14 +107,14 @@ wanted_none table words = record { named = refl; of_table = tt; differ = tt }
 pub wanted_more : (table : List DmaRequest) (words : List (List ℕ)) (place : ℕ) (found more : List DmaRequest) (r : DmaRequest) → place < length words
     → AreWanted table (take place words) found → IsAsked table words place r → more ≡ found ++ r ∷ [] → AreWanted table (take (place + 1) words) more
 wanted_more table words place found more r l w a e =
-    let front = take place words in
+    let prefix = take place words in
     let word = word_at words place in
-    let long : length front ≡ place = length-take-le place words (omega (arith, l)) in
+    let long : length prefix ≡ place = length-take-le place words (omega (arith, l)) in
     subst (λ (rs : List DmaRequest). AreWanted table (take (place + 1) words) rs) (sym e)
     (subst (λ (ws : List (List ℕ)). AreWanted table ws (found ++ r ∷ [])) (sym (word_of words place l)) record {
-      named = map_push (λ (s : DmaRequest). s.name) found r ∙ ap (λ (ws : List (List ℕ)). ws ++ r.name ∷ []) w.named ∙ ap (λ (x : List ℕ). front ++ x ∷ []) a.named;
+      named = map_push (λ (s : DmaRequest). s.name) found r ∙ ap (λ (ws : List (List ℕ)). ws ++ r.name ∷ []) w.named ∙ ap (λ (x : List ℕ). prefix ++ x ∷ []) a.named;
       of_table = each_push (λ (s : DmaRequest). Member s table) found r w.of_table a.of_table;
-      differ = pairs_push ◌≢◌ front word w.differ (each_of (λ (x : List ℕ). x ≢ word) front [] (λ i k same. let m : i < place = omega (arith, k, long) in a.new (i, m, sym (get_or-take place words i [] m) ∙ same)));
+      differ = pairs_push ◌≢◌ prefix word w.differ (each_of (λ (x : List ℕ). x ≢ word) prefix [] (λ i k same. let m : i < place = omega (arith, k, long) in a.new (i, m, sym (get_or-take place words i [] m) ∙ same)));
     })
 
 pub wanted_all : (table : List DmaRequest) (words : List (List ℕ)) (n : ℕ) (found : List DmaRequest) → length words ≤ n → AreWanted table (take n words) found → AreWanted table words found

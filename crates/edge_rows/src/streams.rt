@@ -69,7 +69,7 @@ fn inputs_are_read_up_to_the_limit(rt: HostRuntime) -> Result<(), Fail> {
 }
 
 #[test]
-fn a_front_stands_written_after_a_fault(rt: HostRuntime) -> Result<(), Fail> {
+fn a_prefix_stands_written_after_a_fault(rt: HostRuntime) -> Result<(), Fail> {
     let alloc = rt.alloc();
     let text = [5u8; 100];
     let mut unreserved = MemSink::new(alloc, Vec::new(alloc), 64);

@@ -27,8 +27,8 @@ module _ (t : TableParts) (ioc : List Line) (opts : Opts) (signals : List Signal
       → next ≡ out ++ line → Goes things i out → Goes things (i + 1) next
   one_more things i d out line next l told put goes = record {
     on = λ rest h.
-        let front : drop i things ≡ get_or things i d ∷ drop (i + 1) things = rw add-one (drop-cons things i d l) in
-        let here : Says (drop i things) (line ++ rest) = subst (λ (xs : List Thing). Says xs (line ++ rest)) (sym front) (one (get_or things i d) (drop (i + 1) things) line rest told h) in
+        let prefix : drop i things ≡ get_or things i d ∷ drop (i + 1) things = rw add-one (drop-cons things i d l) in
+        let here : Says (drop i things) (line ++ rest) = subst (λ (xs : List Thing). Says xs (line ++ rest)) (sym prefix) (one (get_or things i d) (drop (i + 1) things) line rest told h) in
         subst (λ (text : List ℕ). Says things text) (sym (append_assoc out line rest) ∙ ap (λ (x : List ℕ). x ++ rest) (sym put)) (goes.on (line ++ rest) here);
   }
 

@@ -19,7 +19,7 @@ fn put_names(alloc: Global, out: &mut Vec<Text>, names: &[Text]) -> Result<(), O
 }
 
 /// The first so many names.
-fn front(names: &[Text], count: usize) -> &[Text]
+fn prefix(names: &[Text], count: usize) -> &[Text]
     ensures { result.now ≡ take count names.now }
 {
     &names[..count.min(names.len())]
@@ -37,7 +37,7 @@ fn needs_left(alloc: Global, needs: &[Text], number: usize) -> Result<Items<Text
     ensures { IfOk result (λ x. x ≡ take (number - 1) needs.now ++ drop number needs.now) }
 {
     let mut left = Vec::new(alloc);
-    put_names(alloc, &mut left, front(needs, number.saturating_sub(1)))?;
+    put_names(alloc, &mut left, prefix(needs, number.saturating_sub(1)))?;
     put_names(alloc, &mut left, behind(needs, number))?;
     Ok(Items::of(left))
 }

@@ -25,7 +25,7 @@ pll_more c rest = three c.pll _ _ _ rest
 late_more : (p : Bool) (c : Codes) (rest : List Op) → late_ops p c rest ≡ late_ops p c [] ++ rest
 late_more p c rest = five (eqb c.src 0) _ _ _ _ _ rest
 
--- two in front, and one more where the second test fails
+-- two before, and one more where the second test fails
 ends_so : (b d : Bool) (x y z : Op) (rest : List Op) → cond b rest (x ∷ y ∷ cond d rest (z ∷ rest)) ≡ cond b [] (x ∷ y ∷ cond d [] (z ∷ [])) ++ rest
 ends_so true d x y z rest = refl
 ends_so false true x y z rest = refl

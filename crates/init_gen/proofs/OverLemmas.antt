@@ -221,7 +221,7 @@ module _ (pf oi by : Bool) (ax ay vn : ℕ) (two : eqb vn 1 ≡ false) (enabled 
   unfolding state_c
   polls_d q p = refl
 
-  -- ---- from the end to the front
+  -- ---- from the end to the beginning
   sound_e : S late (state_c true 0)
   unfolding S late state_c
   sound_e = late_sound pf oi by ax ay (word2 b) vn true true tb want sys c f t at_step pins link g whole_pins cr v hse true k (on_stays (word2 b)) (now3 vn two b ∙ ap Some (sym step_is))

@@ -11,13 +11,13 @@ some_same a b e = cc
 
 -- ---- where a line is divided
 
--- the first = outside of pairs stands behind a front, whatever follows
+-- the first = outside of pairs stands behind a prefix, whatever follows
 pub record Divides (p : Bool) (at : ℕ) (bytes : List ℕ) (place : ℕ) : Type 0 where
-  pub front : List ℕ
+  pub prefix : List ℕ
   pub rest : List ℕ
-  pub whole : bytes ≡ front ++ 61 ∷ rest
-  pub there : at + length front ≡ place
-  pub any : (more : List ℕ) → equals_from p at (front ++ 61 ∷ more) ≡ Some place
+  pub whole : bytes ≡ prefix ++ 61 ∷ rest
+  pub there : at + length prefix ≡ place
+  pub any : (more : List ℕ) → equals_from p at (prefix ++ 61 ∷ more) ≡ Some place
 
 pub divides : (p : Bool) (at : ℕ) (bytes : List ℕ) (place : ℕ) → equals_from p at bytes ≡ Some place → Divides p at bytes place
 unfolding equals_from
@@ -25,37 +25,37 @@ divides true at [] place e = absurd cc
 divides false at [] place e = absurd cc
 divides true at (b ∷ bs) place e =
     let r = divides false (at + 1) bs place e in
-    record { front = b ∷ r.front; rest = r.rest; whole = ap (λ (xs : List ℕ). b ∷ xs) r.whole; there = omega (arith, r.there); any = r.any }
+    record { prefix = b ∷ r.prefix; rest = r.rest; whole = ap (λ (xs : List ℕ). b ∷ xs) r.whole; there = omega (arith, r.there); any = r.any }
 divides false at (b ∷ bs) place e = elim (bool_cases (b == 61)) [
   | inl t ↦
       let is : b ≡ 61 = grind (arith, nat_tests) in
       let f : Some at ≡ Some place = rw t at e in
-      record { front = []; rest = bs; whole = ap (λ (n : ℕ). n ∷ bs) is; there = omega (arith, some_same at place f); any = λ more. f }
+      record { prefix = []; rest = bs; whole = ap (λ (n : ℕ). n ∷ bs) is; there = omega (arith, some_same at place f); any = λ more. f }
   | inr t ↦
       let f : equals_from (b == 92) (at + 1) bs ≡ Some place = rw t at e in
       let r = divides (b == 92) (at + 1) bs place f in
-      record { front = b ∷ r.front; rest = r.rest; whole = ap (λ (xs : List ℕ). b ∷ xs) r.whole; there = omega (arith, r.there); any = λ more. rw t (r.any more) }
+      record { prefix = b ∷ r.prefix; rest = r.rest; whole = ap (λ (xs : List ℕ). b ∷ xs) r.whole; there = omega (arith, r.there); any = λ more. rw t (r.any more) }
 ]
 
-pub take_front : (front more : List ℕ) → take (length front) (front ++ more) ≡ front
-take_front [] more = refl
-take_front (b ∷ bs) more = ap (λ (xs : List ℕ). b ∷ xs) (take_front bs more)
+pub take_prefix : (prefix more : List ℕ) → take (length prefix) (prefix ++ more) ≡ prefix
+take_prefix [] more = refl
+take_prefix (b ∷ bs) more = ap (λ (xs : List ℕ). b ∷ xs) (take_prefix bs more)
 
-take_past : (front : List ℕ) (x : ℕ) (more : List ℕ) → take (length front + 1) (front ++ x ∷ more) ≡ front ++ x ∷ []
+take_past : (prefix : List ℕ) (x : ℕ) (more : List ℕ) → take (length prefix + 1) (prefix ++ x ∷ more) ≡ prefix ++ x ∷ []
 take_past [] x more = refl
 take_past (b ∷ bs) x more = rw (one_in (length bs)) (ap (λ (xs : List ℕ). b ∷ xs) (take_past bs x more))
   where
     one_in : (n : ℕ) → suc n + 1 ≡ suc (n + 1)
     one_in n = omega arith
 
-pub drop_past : (front : List ℕ) (x : ℕ) (more : List ℕ) → drop (length front + 1) (front ++ x ∷ more) ≡ more
+pub drop_past : (prefix : List ℕ) (x : ℕ) (more : List ℕ) → drop (length prefix + 1) (prefix ++ x ∷ more) ≡ more
 drop_past [] x more = refl
 drop_past (b ∷ bs) x more = rw (one_in (length bs)) (drop_past bs x more)
   where
     one_in : (n : ℕ) → suc n + 1 ≡ suc (n + 1)
     one_in n = omega arith
 
-same_quiet : (front a b : List ℕ) → is_quiet (front ++ 61 ∷ a) ≡ is_quiet (front ++ 61 ∷ b)
+same_quiet : (prefix a b : List ℕ) → is_quiet (prefix ++ 61 ∷ a) ≡ is_quiet (prefix ++ 61 ∷ b)
 same_quiet [] a b = refl
 same_quiet (x ∷ xs) a b = refl
 
@@ -105,34 +105,34 @@ module _ (says : List ℕ) (k : Keyed) (h : keyed says ≡ Some k) where
   unfolding equals_at
   cut = divides false 0 says k.equals has.at
 
-  pub long : length cut.front ≡ k.equals
+  pub long : length cut.prefix ≡ k.equals
   long = omega (arith, cut.there)
 
-  up_to : take (k.equals + 1) says ≡ cut.front ++ 61 ∷ []
-  up_to = ap (λ (n : ℕ). take (n + 1) says) (sym long) ∙ ap (take (length cut.front + 1)) cut.whole ∙ take_past cut.front 61 cut.rest
+  up_to : take (k.equals + 1) says ≡ cut.prefix ++ 61 ∷ []
+  up_to = ap (λ (n : ℕ). take (n + 1) says) (sym long) ∙ ap (take (length cut.prefix + 1)) cut.whole ∙ take_past cut.prefix 61 cut.rest
 
-  pub front_is : take k.equals says ≡ cut.front
-  front_is = ap (λ (n : ℕ). take n says) (sym long) ∙ ap (take (length cut.front)) cut.whole ∙ take_front cut.front (61 ∷ cut.rest)
+  pub prefix_is : take k.equals says ≡ cut.prefix
+  prefix_is = ap (λ (n : ℕ). take n says) (sym long) ∙ ap (take (length cut.prefix)) cut.whole ∙ take_prefix cut.prefix (61 ∷ cut.rest)
 
-  pub front_read : undone cut.front ≡ Some k.key
-  front_read = ap undone (sym front_is) ∙ has.read
+  pub prefix_read : undone cut.prefix ≡ Some k.key
+  prefix_read = ap undone (sym prefix_is) ∙ has.read
 
   module _ (value : List ℕ) where
-    pub with_is : with_value says k.equals value ≡ cut.front ++ 61 ∷ value
-    with_is = ap (λ (xs : List ℕ). xs ++ value) up_to ∙ append_assoc cut.front (61 ∷ []) value
+    pub with_is : with_value says k.equals value ≡ cut.prefix ++ 61 ∷ value
+    with_is = ap (λ (xs : List ℕ). xs ++ value) up_to ∙ append_assoc cut.prefix (61 ∷ []) value
 
-    pub loud_with : is_quiet (cut.front ++ 61 ∷ value) ≡ false
-    loud_with = same_quiet cut.front value cut.rest ∙ ap is_quiet (sym cut.whole) ∙ has.loud
+    pub loud_with : is_quiet (cut.prefix ++ 61 ∷ value) ≡ false
+    loud_with = same_quiet cut.prefix value cut.rest ∙ ap is_quiet (sym cut.whole) ∙ has.loud
 
-    pub divided_with : equals_at (cut.front ++ 61 ∷ value) ≡ Some k.equals
+    pub divided_with : equals_at (cut.prefix ++ 61 ∷ value) ≡ Some k.equals
     unfolding equals_at
     divided_with = cut.any value
 
-    pub read_with : undone (take k.equals (cut.front ++ 61 ∷ value)) ≡ Some k.key
-    read_with = ap (λ (n : ℕ). undone (take n (cut.front ++ 61 ∷ value))) (sym long) ∙ ap undone (take_front cut.front (61 ∷ value)) ∙ front_read
+    pub read_with : undone (take k.equals (cut.prefix ++ 61 ∷ value)) ≡ Some k.key
+    read_with = ap (λ (n : ℕ). undone (take n (cut.prefix ++ 61 ∷ value))) (sym long) ∙ ap undone (take_prefix cut.prefix (61 ∷ value)) ∙ prefix_read
 
     pub key_stays : keyed (with_value says k.equals value) ≡ Some k
-    key_stays = ap keyed with_is ∙ key_had (cut.front ++ 61 ∷ value) k.equals k.key loud_with divided_with read_with
+    key_stays = ap keyed with_is ∙ key_had (cut.prefix ++ 61 ∷ value) k.equals k.key loud_with divided_with read_with
 
     pub value_is : drop (k.equals + 1) (with_value says k.equals value) ≡ value
-    value_is = ap (drop (k.equals + 1)) with_is ∙ ap (λ (n : ℕ). drop (n + 1) (cut.front ++ 61 ∷ value)) (sym long) ∙ drop_past cut.front 61 value
+    value_is = ap (drop (k.equals + 1)) with_is ∙ ap (λ (n : ℕ). drop (n + 1) (cut.prefix ++ 61 ∷ value)) (sym long) ∙ drop_past cut.prefix 61 value

@@ -37,36 +37,36 @@ from_dot : (key : List ℕ) (dot : ℕ) → last_dot key ≡ Some dot → FromDo
 from_dot [] dot e = absurd cc
 from_dot (b ∷ bs) dot e = dot_by b bs dot (λ d q. from_dot bs d q) (last_dot bs) refl e
 
-pub with_dot : (front rest : List ℕ) → last_dot rest ≡ None → last_dot (front ++ 46 ∷ rest) ≡ Some (length front)
+pub with_dot : (prefix rest : List ℕ) → last_dot rest ≡ None → last_dot (prefix ++ 46 ∷ rest) ≡ Some (length prefix)
 with_dot [] rest n = rw n refl
 with_dot (b ∷ bs) rest n = rw (with_dot bs rest n) (ap Some (omega arith))
 
-pub part_is : (front rest : List ℕ) → last_dot rest ≡ None → pin_part (front ++ 46 ∷ rest) ≡ front
+pub part_is : (prefix rest : List ℕ) → last_dot rest ≡ None → pin_part (prefix ++ 46 ∷ rest) ≡ prefix
 unfolding pin_part
-part_is front rest n = ap (prefix_to (front ++ 46 ∷ rest)) (with_dot front rest n) ∙ take_at front (46 ∷ rest) (length front) refl
+part_is prefix rest n = ap (prefix_to (prefix ++ 46 ∷ rest)) (with_dot prefix rest n) ∙ take_at prefix (46 ∷ rest) (length prefix) refl
 
-pub rest_is : (front rest : List ℕ) → last_dot rest ≡ None → rest_from (front ++ 46 ∷ rest) (last_dot (front ++ 46 ∷ rest)) ≡ 46 ∷ rest
-rest_is front rest n = ap (rest_from (front ++ 46 ∷ rest)) (with_dot front rest n) ∙ drop_at front (46 ∷ rest) (length front) refl
+pub rest_is : (prefix rest : List ℕ) → last_dot rest ≡ None → rest_from (prefix ++ 46 ∷ rest) (last_dot (prefix ++ 46 ∷ rest)) ≡ 46 ∷ rest
+rest_is prefix rest n = ap (rest_from (prefix ++ 46 ∷ rest)) (with_dot prefix rest n) ∙ drop_at prefix (46 ∷ rest) (length prefix) refl
 
 -- a key with a dot
 pub record IsDotted (key : List ℕ) : Type 0 where
-  pub front : List ℕ
+  pub prefix : List ℕ
   pub rest : List ℕ
-  pub is : key ≡ front ++ 46 ∷ rest
+  pub is : key ≡ prefix ++ 46 ∷ rest
   pub none : last_dot rest ≡ None
-  pub dot : last_dot key ≡ Some (length front)
-  pub part : pin_part key ≡ front
+  pub dot : last_dot key ≡ Some (length prefix)
+  pub part : pin_part key ≡ prefix
   pub behind : rest_from key (last_dot key) ≡ 46 ∷ rest
 
-pub dotted_by : (key front rest : List ℕ) → key ≡ front ++ 46 ∷ rest → last_dot rest ≡ None → IsDotted key
-dotted_by key front rest e n = record {
-  front = front;
+pub dotted_by : (key prefix rest : List ℕ) → key ≡ prefix ++ 46 ∷ rest → last_dot rest ≡ None → IsDotted key
+dotted_by key prefix rest e n = record {
+  prefix = prefix;
   rest = rest;
   is = e;
   none = n;
-  dot = ap last_dot e ∙ with_dot front rest n;
-  part = ap pin_part e ∙ part_is front rest n;
-  behind = ap (λ (x : List ℕ). rest_from x (last_dot x)) e ∙ rest_is front rest n;
+  dot = ap last_dot e ∙ with_dot prefix rest n;
+  part = ap pin_part e ∙ part_is prefix rest n;
+  behind = ap (λ (x : List ℕ). rest_from x (last_dot x)) e ∙ rest_is prefix rest n;
 }
 
 pub dotted : (key : List ℕ) (dot : ℕ) → last_dot key ≡ Some dot → IsDotted key
@@ -88,16 +88,16 @@ dotted_part key b bs e = by (last_dot key) refl
     by None q = let f : [] ≡ b ∷ bs = sym (no_part key q) ∙ e in absurd cc
 
 -- keys of one pin part that go on alike are the same
-pub same_key : (a b : List ℕ) (x : IsDotted a) (y : IsDotted b) → x.front ≡ y.front → x.rest ≡ y.rest → a ≡ b
-same_key a b x y f r = x.is ∙ ap (λ (n : List ℕ). n ++ 46 ∷ x.rest) f ∙ ap (λ (n : List ℕ). y.front ++ 46 ∷ n) r ∙ sym y.is
+pub same_key : (a b : List ℕ) (x : IsDotted a) (y : IsDotted b) → x.prefix ≡ y.prefix → x.rest ≡ y.rest → a ≡ b
+same_key a b x y f r = x.is ∙ ap (λ (n : List ℕ). n ++ 46 ∷ x.rest) f ∙ ap (λ (n : List ℕ). y.prefix ++ 46 ∷ n) r ∙ sym y.is
 
 tail_same : (a b : ℕ) (xs ys : List ℕ) → a ∷ xs ≡ b ∷ ys → xs ≡ ys
 tail_same a b xs ys e = cc
 
-pub parts_same : (front rest other more : List ℕ) → last_dot rest ≡ None → last_dot more ≡ None → front ++ 46 ∷ rest ≡ other ++ 46 ∷ more → (front ≡ other) × (rest ≡ more)
-parts_same front rest other more n m e = (
-  sym (part_is front rest n) ∙ ap pin_part e ∙ part_is other more m,
-  tail_same 46 46 rest more (sym (rest_is front rest n) ∙ ap (λ (x : List ℕ). rest_from x (last_dot x)) e ∙ rest_is other more m),
+pub parts_same : (prefix rest other more : List ℕ) → last_dot rest ≡ None → last_dot more ≡ None → prefix ++ 46 ∷ rest ≡ other ++ 46 ∷ more → (prefix ≡ other) × (rest ≡ more)
+parts_same prefix rest other more n m e = (
+  sym (part_is prefix rest n) ∙ ap pin_part e ∙ part_is other more m,
+  tail_same 46 46 rest more (sym (rest_is prefix rest n) ∙ ap (λ (x : List ℕ). rest_from x (last_dot x)) e ∙ rest_is other more m),
 )
 
 -- ---- which keys of pins are named
@@ -107,30 +107,30 @@ both_ways true b f g = sym (f refl)
 both_ways false true f g = g refl
 both_ways false false f g = refl
 
-ends_at : (key suffix : List ℕ) → ends_with nat_eq key suffix ≡ true → (front : List ℕ) × (key ≡ front ++ suffix)
+ends_at : (key suffix : List ℕ) → ends_with nat_eq key suffix ≡ true → (prefix : List ℕ) × (key ≡ prefix ++ suffix)
 ends_at key suffix e =
     let n = length key - length suffix in
     let same : suffix ≡ drop n key = (bytes_eq-Decides suffix (drop n key)).0 e in
     (take n key, sym (take-append-drop n key) ∙ ap (λ (x : List ℕ). take n key ++ x) (sym same))
 
-ends_so : (front suffix : List ℕ) → ends_with nat_eq (front ++ suffix) suffix ≡ true
-ends_so front suffix =
-    let n : length (front ++ suffix) - length suffix ≡ length front = (let l = length-append front suffix in omega (arith, l)) in
-    let same : suffix ≡ drop (length (front ++ suffix) - length suffix) (front ++ suffix) = sym (drop_at front suffix (length (front ++ suffix) - length suffix) (sym n)) in
-    (bytes_eq-Decides suffix (drop (length (front ++ suffix) - length suffix) (front ++ suffix))).1 same
+ends_so : (prefix suffix : List ℕ) → ends_with nat_eq (prefix ++ suffix) suffix ≡ true
+ends_so prefix suffix =
+    let n : length (prefix ++ suffix) - length suffix ≡ length prefix = (let l = length-append prefix suffix in omega (arith, l)) in
+    let same : suffix ≡ drop (length (prefix ++ suffix) - length suffix) (prefix ++ suffix) = sym (drop_at prefix suffix (length (prefix ++ suffix) - length suffix) (sym n)) in
+    (bytes_eq-Decides suffix (drop (length (prefix ++ suffix) - length suffix) (prefix ++ suffix))).1 same
 
-ends_by : (front rest x : List ℕ) → last_dot rest ≡ None → last_dot x ≡ None → ends_with nat_eq (front ++ 46 ∷ rest) (46 ∷ x) ≡ bytes_eq (46 ∷ x) (46 ∷ rest)
-ends_by front rest x n m = both_ways (ends_with nat_eq (front ++ 46 ∷ rest) (46 ∷ x)) (bytes_eq (46 ∷ x) (46 ∷ rest))
-    (λ e. (let r = ends_at (front ++ 46 ∷ rest) (46 ∷ x) e in
-    let same = parts_same front rest r.0 x n m r.1 in
+ends_by : (prefix rest x : List ℕ) → last_dot rest ≡ None → last_dot x ≡ None → ends_with nat_eq (prefix ++ 46 ∷ rest) (46 ∷ x) ≡ bytes_eq (46 ∷ x) (46 ∷ rest)
+ends_by prefix rest x n m = both_ways (ends_with nat_eq (prefix ++ 46 ∷ rest) (46 ∷ x)) (bytes_eq (46 ∷ x) (46 ∷ rest))
+    (λ e. (let r = ends_at (prefix ++ 46 ∷ rest) (46 ∷ x) e in
+    let same = parts_same prefix rest r.0 x n m r.1 in
     (bytes_eq-Decides (46 ∷ x) (46 ∷ rest)).1 (ap (λ (y : List ℕ). 46 ∷ y) (sym same.1))))
     (λ e. (let same : 46 ∷ x ≡ 46 ∷ rest = (bytes_eq-Decides (46 ∷ x) (46 ∷ rest)).0 e in
-    subst (λ (y : List ℕ). ends_with nat_eq (front ++ 46 ∷ rest) y ≡ true) (sym same) (ends_so front (46 ∷ rest))))
+    subst (λ (y : List ℕ). ends_with nat_eq (prefix ++ 46 ∷ rest) y ≡ true) (sym same) (ends_so prefix (46 ∷ rest))))
 
-pin_key_is : (front rest : List ℕ) → last_dot rest ≡ None → is_pin_key (front ++ 46 ∷ rest) ≡ is_suffix (46 ∷ rest)
+pin_key_is : (prefix rest : List ℕ) → last_dot rest ≡ None → is_pin_key (prefix ++ 46 ∷ rest) ≡ is_suffix (46 ∷ rest)
 unfolding is_pin_key
-pin_key_is front rest n =
-    rw (ends_by front rest (codes "Signal") n refl, ends_by front rest (codes "Locked") n refl, ends_by front rest (codes "GPIO_PuPd") n refl, ends_by front rest (codes "GPIO_Speed") n refl) refl
+pin_key_is prefix rest n =
+    rw (ends_by prefix rest (codes "Signal") n refl, ends_by prefix rest (codes "Locked") n refl, ends_by prefix rest (codes "GPIO_PuPd") n refl, ends_by prefix rest (codes "GPIO_Speed") n refl) refl
 
 or_false : (b : Bool) → b || false ≡ b
 or_false true = refl
@@ -156,6 +156,6 @@ unfolding is_named
 named_pin bs = rw (no_single bs, no_clock bs, no_number bs) (or_false (is_pin_key (80 ∷ bs)))
 
 -- a key of a pin is named by what stands from its last dot on
-pub named_by_rest : (front rest bs : List ℕ) → front ≡ 80 ∷ bs → last_dot rest ≡ None → is_named (front ++ 46 ∷ rest) ≡ is_suffix (46 ∷ rest)
-named_by_rest front rest bs e n =
-    ap (λ (x : List ℕ). is_named (x ++ 46 ∷ rest)) e ∙ named_pin (bs ++ 46 ∷ rest) ∙ ap (λ (x : List ℕ). is_pin_key (x ++ 46 ∷ rest)) (sym e) ∙ pin_key_is front rest n
+pub named_by_rest : (prefix rest bs : List ℕ) → prefix ≡ 80 ∷ bs → last_dot rest ≡ None → is_named (prefix ++ 46 ∷ rest) ≡ is_suffix (46 ∷ rest)
+named_by_rest prefix rest bs e n =
+    ap (λ (x : List ℕ). is_named (x ++ 46 ∷ rest)) e ∙ named_pin (bs ++ 46 ∷ rest) ∙ ap (λ (x : List ℕ). is_pin_key (x ++ 46 ∷ rest)) (sym e) ∙ pin_key_is prefix rest n

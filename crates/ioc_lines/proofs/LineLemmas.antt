@@ -10,7 +10,7 @@ use Rattle.ioc_text.specs.declared.fault.IocFault.TheVariants.{LongLine, NoEqual
 use Rattle.ioc_text.specs.declared.line.Line.{Line}
 use Rattle.ioc_lines.specs.Entries.{Entry, Near, NearIf, Reads, entry_of, numbered_if, of_key, of_parts, valued}
 use Rattle.ioc_lines.specs.Lines.{Keyed, divided, escaped, keyed, keyed_at, with_key}
-use Rattle.ioc_lines.proofs.DivideLemmas.{Divides, HasKey, cut, drop_past, divides, has, key_had, take_front}
+use Rattle.ioc_lines.proofs.DivideLemmas.{Divides, HasKey, cut, drop_past, divides, has, key_had, take_prefix}
 use Rattle.ioc_lines.proofs.NameLemmas.{name_read}
 use Rattle.ioc_lines.proofs.PartLemmas.{loud_name, name_passed}
 
@@ -81,7 +81,7 @@ module _ (key value : List ℕ) (some : 0 < length key) where
   entry_at = name_passed 0 key (61 ∷ escaped value) ∙ ap Some (omega arith)
 
   pub entry_keyed : keyed entry_line ≡ Some (keyed_at key (length (escaped key)))
-  entry_keyed = key_had entry_line (length (escaped key)) key (loud_name key (61 ∷ escaped value) some) entry_at (ap undone (take_front (escaped key) (61 ∷ escaped value)) ∙ name_read key)
+  entry_keyed = key_had entry_line (length (escaped key)) key (loud_name key (61 ∷ escaped value) some) entry_at (ap undone (take_prefix (escaped key) (61 ∷ escaped value)) ∙ name_read key)
 
   pub entry_reads : is_named key ≡ true → length entry_line ≤ 65535 → Reads entry_line × (entry_of entry_line ≡ Some (key, value))
   entry_reads n short = reads_named entry_line (keyed_at key (length (escaped key))) entry_keyed short value n (ap undone (drop_past (escaped key) 61 (escaped value)) ∙ name_read value)
@@ -132,21 +132,21 @@ module _ (s : List ℕ) (at : ℕ) (e : equals_at s ≡ Some at) where
   unfolding equals_at
   the_cut = divides false 0 s at e
 
-  as_long : length the_cut.front ≡ at
+  as_long : length the_cut.prefix ≡ at
   as_long = omega (arith, the_cut.there)
 
-  with_cr : s ++ 13 ∷ [] ≡ the_cut.front ++ 61 ∷ (the_cut.rest ++ 13 ∷ [])
-  with_cr = ap (λ (x : List ℕ). x ++ 13 ∷ []) the_cut.whole ∙ append_assoc the_cut.front (61 ∷ the_cut.rest) (13 ∷ [])
+  with_cr : s ++ 13 ∷ [] ≡ the_cut.prefix ++ 61 ∷ (the_cut.rest ++ 13 ∷ [])
+  with_cr = ap (λ (x : List ℕ). x ++ 13 ∷ []) the_cut.whole ∙ append_assoc the_cut.prefix (61 ∷ the_cut.rest) (13 ∷ [])
 
   pub take_cr : take at (s ++ 13 ∷ []) ≡ take at s
   take_cr =
-      ap (λ (n : ℕ). take n (s ++ 13 ∷ [])) (sym as_long) ∙ ap (take (length the_cut.front)) with_cr ∙ take_front the_cut.front (61 ∷ (the_cut.rest ++ 13 ∷ []))
-      ∙ sym (ap (λ (n : ℕ). take n s) (sym as_long) ∙ ap (take (length the_cut.front)) the_cut.whole ∙ take_front the_cut.front (61 ∷ the_cut.rest))
+      ap (λ (n : ℕ). take n (s ++ 13 ∷ [])) (sym as_long) ∙ ap (take (length the_cut.prefix)) with_cr ∙ take_prefix the_cut.prefix (61 ∷ (the_cut.rest ++ 13 ∷ []))
+      ∙ sym (ap (λ (n : ℕ). take n s) (sym as_long) ∙ ap (take (length the_cut.prefix)) the_cut.whole ∙ take_prefix the_cut.prefix (61 ∷ the_cut.rest))
 
   pub drop_cr : drop (at + 1) (s ++ 13 ∷ []) ≡ drop (at + 1) s ++ 13 ∷ []
   drop_cr =
-      ap (λ (n : ℕ). drop (n + 1) (s ++ 13 ∷ [])) (sym as_long) ∙ ap (drop (length the_cut.front + 1)) with_cr ∙ drop_past the_cut.front 61 (the_cut.rest ++ 13 ∷ [])
-      ∙ ap (λ (x : List ℕ). x ++ 13 ∷ []) (sym (ap (λ (n : ℕ). drop (n + 1) s) (sym as_long) ∙ ap (drop (length the_cut.front + 1)) the_cut.whole ∙ drop_past the_cut.front 61 the_cut.rest))
+      ap (λ (n : ℕ). drop (n + 1) (s ++ 13 ∷ [])) (sym as_long) ∙ ap (drop (length the_cut.prefix + 1)) with_cr ∙ drop_past the_cut.prefix 61 (the_cut.rest ++ 13 ∷ [])
+      ∙ ap (λ (x : List ℕ). x ++ 13 ∷ []) (sym (ap (λ (n : ℕ). drop (n + 1) s) (sym as_long) ∙ ap (drop (length the_cut.prefix + 1)) the_cut.whole ∙ drop_past the_cut.prefix 61 the_cut.rest))
 
 at_cr : (s : List ℕ) → equals_at (s ++ 13 ∷ []) ≡ equals_at s
 unfolding equals_at

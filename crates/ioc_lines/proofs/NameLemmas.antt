@@ -30,13 +30,13 @@ byte_read b rest = elim (bool_cases (is_special b)) [
   | inr e ↦ rw (e, no_backslash b e) refl
 ]
 
-front_read : (b : ℕ) (o : Option (List ℕ)) (bs : List ℕ) → o ≡ Some bs → after_bytes (b ∷ []) o ≡ Some (b ∷ bs)
-front_read b o bs e = rw e refl
+prefix_read : (b : ℕ) (o : Option (List ℕ)) (bs : List ℕ) → o ≡ Some bs → after_bytes (b ∷ []) o ≡ Some (b ∷ bs)
+prefix_read b o bs e = rw e refl
 
 all_read : (name : List ℕ) → undone_from false (escaped name) ≡ Some name
 unfolding undone_from escaped
 all_read [] = refl
-all_read (b ∷ bs) = ap (undone_from false) (escaped_first b bs) ∙ byte_read b (escaped bs) ∙ front_read b (undone_from false (escaped bs)) bs (all_read bs)
+all_read (b ∷ bs) = ap (undone_from false) (escaped_first b bs) ∙ byte_read b (escaped bs) ∙ prefix_read b (undone_from false (escaped bs)) bs (all_read bs)
 
 pub name_read : (name : List ℕ) → undone (escaped name) ≡ Some name
 unfolding undone

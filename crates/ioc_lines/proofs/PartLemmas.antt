@@ -7,7 +7,7 @@ use Rattle.ioc_text.specs.Lines.{after_bytes, equals_at, equals_from, is_escapab
 use Rattle.ioc_lines.specs.Lines.{Keyed, escaped, escaped_byte, first_or_later, is_special, keyed, keyed_at, last_dot, rest_from}
 use Rattle.ioc_lines.specs.Lines.{with_pin}
 use Rattle.ioc_lines.proofs.NameLemmas.{byte_read, escaped_first, no_backslash}
-use Rattle.ioc_lines.proofs.DivideLemmas.{cut, drop_past, front_is, front_read, key_had, long, some_same, take_front}
+use Rattle.ioc_lines.proofs.DivideLemmas.{cut, drop_past, prefix_is, prefix_read, key_had, long, some_same, take_prefix}
 
 abbrev Bytes : Type 0
 Bytes = Option (List ℕ)
@@ -193,14 +193,14 @@ one_before : (b : ℕ) (bs : List ℕ) (o : Bytes) → after_bytes (b ∷ []) (a
 one_before b bs None = refl
 one_before b bs (Some bytes) = refl
 
-name_front : (name more : List ℕ) → undone_from false (escaped name ++ more) ≡ after_bytes name (undone_from false more)
+name_prefix : (name more : List ℕ) → undone_from false (escaped name ++ more) ≡ after_bytes name (undone_from false more)
 unfolding escaped
-name_front [] more = nothing_before (undone_from false more)
-name_front (b ∷ bs) more =
+name_prefix [] more = nothing_before (undone_from false more)
+name_prefix (b ∷ bs) more =
     ap (λ (xs : List ℕ). undone_from false (xs ++ more)) (escaped_first b bs)
     ∙ ap (undone_from false) (append_assoc (escaped_byte b) (escaped bs) more)
     ∙ byte_read b (escaped bs ++ more)
-    ∙ ap (after_bytes (b ∷ [])) (name_front bs more)
+    ∙ ap (after_bytes (b ∷ [])) (name_prefix bs more)
     ∙ one_before b bs (undone_from false more)
 
 pub loud_name : (name more : List ℕ) → 0 < length name → is_quiet (escaped name ++ more) ≡ false
@@ -236,10 +236,10 @@ other_start at t m bytes e =
     let from_zero : equals_from false 0 bytes ≡ Some t = unmoved at t (equals_from false 0 bytes) (sym (shift false 0 at bytes) ∙ ap (λ (n : ℕ). equals_from false n bytes) (omega arith) ∙ e) in
     ap (λ (n : ℕ). equals_from false n bytes) (omega arith) ∙ shift false 0 m bytes ∙ ap (moved m) from_zero ∙ ap Some (omega arith)
 
-drop_front : (at : ℕ) (front more : List ℕ) → at < length front → drop at (front ++ more) ≡ drop at front ++ more
-drop_front zero front more l = refl
-drop_front (suc at) [] more l = absurd (omega arith)
-drop_front (suc at) (b ∷ bs) more l = drop_front at bs more (omega arith)
+drop_prefix : (at : ℕ) (prefix more : List ℕ) → at < length prefix → drop at (prefix ++ more) ≡ drop at prefix ++ more
+drop_prefix zero prefix more l = refl
+drop_prefix (suc at) [] more l = absurd (omega arith)
+drop_prefix (suc at) (b ∷ bs) more l = drop_prefix at bs more (omega arith)
 
 length_drop : (at : ℕ) (xs : List ℕ) → at < length xs → at + length (drop at xs) ≡ length xs
 length_drop zero xs l = omega arith
@@ -247,35 +247,35 @@ length_drop (suc at) [] l = absurd (omega arith)
 length_drop (suc at) (x ∷ xs) l = let n = length_drop at xs (omega arith) in omega (arith, n)
 
 module _ (says : List ℕ) (k : Keyed) (h : keyed says ≡ Some k) (dot : ℕ) (d : last_dot k.key ≡ Some dot) (name : List ℕ) (some : 0 < length name) where
-  pub front : List ℕ
-  front = (cut says k h).front
+  pub prefix : List ℕ
+  prefix = (cut says k h).prefix
 
   pub rest : List ℕ
   rest = (cut says k h).rest
 
-  pub parts : Cuts false front k.key dot
-  unfolding undone front
-  parts = cuts false front k.key dot (front_read says k h) d
+  pub parts : Cuts false prefix k.key dot
+  unfolding undone prefix
+  parts = cuts false prefix k.key dot (prefix_read says k h) d
 
   pub tail : List ℕ
-  tail = drop parts.at front
+  tail = drop parts.at prefix
 
   pub renamed : with_pin says k.equals (escaped name) ≡ (escaped name ++ tail) ++ 61 ∷ rest
-  unfolding with_pin front rest tail
+  unfolding with_pin prefix rest tail
   renamed =
-      ap (λ (xs : List ℕ). escaped name ++ rest_from says (last_dot xs)) (front_is says k h)
+      ap (λ (xs : List ℕ). escaped name ++ rest_from says (last_dot xs)) (prefix_is says k h)
       ∙ ap (λ (o : Option ℕ). escaped name ++ rest_from says o) parts.there
       ∙ ap (λ (xs : List ℕ). escaped name ++ drop parts.at xs) (cut says k h).whole
-      ∙ ap (λ (xs : List ℕ). escaped name ++ xs) (drop_front parts.at front (61 ∷ rest) parts.within)
+      ∙ ap (λ (xs : List ℕ). escaped name ++ xs) (drop_prefix parts.at prefix (61 ∷ rest) parts.within)
       ∙ sym (append_assoc (escaped name) tail (61 ∷ rest))
 
   pub stands : equals_at ((escaped name ++ tail) ++ 61 ∷ rest) ≡ Some (length (escaped name ++ tail))
-  unfolding equals_at front rest tail
+  unfolding equals_at prefix rest tail
   stands =
       let t = length tail in
-      let all : equals_from false 0 (front ++ 61 ∷ rest) ≡ Some (length front) = (cut says k h).any rest ∙ ap Some (sym (long says k h)) in
-      let here : equals_from false (0 + parts.at) (tail ++ 61 ∷ rest) ≡ Some (length front) = parts.apart 0 (length front) rest (omega arith) all in
-      let sum : length front ≡ (0 + parts.at) + t = let n = length_drop parts.at front parts.within in omega (arith, n) in
+      let all : equals_from false 0 (prefix ++ 61 ∷ rest) ≡ Some (length prefix) = (cut says k h).any rest ∙ ap Some (sym (long says k h)) in
+      let here : equals_from false (0 + parts.at) (tail ++ 61 ∷ rest) ≡ Some (length prefix) = parts.apart 0 (length prefix) rest (omega arith) all in
+      let sum : length prefix ≡ (0 + parts.at) + t = let n = length_drop parts.at prefix parts.within in omega (arith, n) in
       ap (equals_from false 0) (append_assoc (escaped name) tail (61 ∷ rest))
       ∙ name_passed 0 name (tail ++ 61 ∷ rest)
       ∙ other_start (0 + parts.at) t (0 + length (escaped name)) (tail ++ 61 ∷ rest) (here ∙ ap Some sum)
@@ -283,7 +283,7 @@ module _ (says : List ℕ) (k : Keyed) (h : keyed says ≡ Some k) (dot : ℕ) (
 
   pub read : undone (escaped name ++ tail) ≡ Some (name ++ drop dot k.key)
   unfolding undone tail
-  read = name_front name tail ∙ ap (after_bytes name) parts.read
+  read = name_prefix name tail ∙ ap (after_bytes name) parts.read
 
   pub new_key : Keyed
   new_key = keyed_at (name ++ drop dot k.key) (length (escaped name ++ tail))
@@ -293,13 +293,13 @@ module _ (says : List ℕ) (k : Keyed) (h : keyed says ≡ Some k) (dot : ℕ) (
   new_is =
       key_had ((escaped name ++ tail) ++ 61 ∷ rest) (length (escaped name ++ tail)) (name ++ drop dot k.key)
       (ap is_quiet (append_assoc (escaped name) tail (61 ∷ rest)) ∙ loud_name name (tail ++ 61 ∷ rest) some) stands
-      (ap undone (take_front (escaped name ++ tail) (61 ∷ rest)) ∙ read)
+      (ap undone (take_prefix (escaped name ++ tail) (61 ∷ rest)) ∙ read)
 
   pub value_stays : drop (length (escaped name ++ tail) + 1) ((escaped name ++ tail) ++ 61 ∷ rest) ≡ drop (k.equals + 1) says
-  unfolding front rest
+  unfolding prefix rest
   value_stays =
       drop_past (escaped name ++ tail) 61 rest
-      ∙ sym (ap (λ (n : ℕ). drop (n + 1) says) (sym (long says k h)) ∙ ap (drop (length front + 1)) (cut says k h).whole ∙ drop_past front 61 rest)
+      ∙ sym (ap (λ (n : ℕ). drop (n + 1) says) (sym (long says k h)) ∙ ap (drop (length prefix + 1)) (cut says k h).whole ∙ drop_past prefix 61 rest)
 
   pub pin_changes : IsSomeAnd (keyed (with_pin says k.equals (escaped name)))
       (λ (j : Keyed). (j.key ≡ name ++ drop dot k.key) × (drop (j.equals + 1) (with_pin says k.equals (escaped name)) ≡ drop (k.equals + 1) says))
@@ -309,12 +309,12 @@ module _ (says : List ℕ) (k : Keyed) (h : keyed says ≡ Some k) (dot : ℕ) (
   -- what a line says with another pin in its key
   pub record IsRenamed : Type 0 where
     pub cut_at : ℕ
-    pub is : with_pin says k.equals (escaped name) ≡ (escaped name ++ drop cut_at (cut says k h).front) ++ 61 ∷ (cut says k h).rest
+    pub is : with_pin says k.equals (escaped name) ≡ (escaped name ++ drop cut_at (cut says k h).prefix) ++ 61 ∷ (cut says k h).rest
     pub by : Keyed
     pub keyed_is : keyed (with_pin says k.equals (escaped name)) ≡ Some by
     pub key_is : by.key ≡ name ++ drop dot k.key
     pub raw_is : drop (by.equals + 1) (with_pin says k.equals (escaped name)) ≡ drop (k.equals + 1) says
 
   pub is_renamed : IsRenamed
-  unfolding front rest tail new_key
+  unfolding prefix rest tail new_key
   is_renamed = record { cut_at = parts.at; is = renamed; by = new_key; keyed_is = ap keyed renamed ∙ new_is; key_is = refl; raw_is = ap (drop (new_key.equals + 1)) renamed ∙ value_stays }

@@ -9,8 +9,8 @@ use Rattle.std.proofs.lemmas.List.Splits.{slice_split-cons_yes, slice_split-cons
 use Rattle.res_base.specs.Lists.{Each}
 use Rattle.res_base.proofs.SumLemmas.{bool_cases}
 use Rattle.ioc_lines.specs.Lines.{IsClean, IsEnded, TextLine, ended, ending, last_of, lines_of_parts, text_line, text_lines, unended}
-use Rattle.ioc_lines.proofs.DivideLemmas.{take_front}
-use Rattle.ioc_lines.proofs.TextLemmas.{front_and_last, less_one, whole}
+use Rattle.ioc_lines.proofs.DivideLemmas.{take_prefix}
+use Rattle.ioc_lines.proofs.TextLemmas.{prefix_and_last, less_one, whole}
 
 -- ---- lists of bytes
 
@@ -58,8 +58,8 @@ one_longer : (bs : List ℕ) (y : ℕ) → length (bs ++ y ∷ []) ≡ suc (leng
 one_longer [] y = refl
 one_longer (b ∷ bs) y = ap suc (one_longer bs y)
 
-front_but_one : (s : List ℕ) (y : ℕ) → take (length (s ++ y ∷ []) - 1) (s ++ y ∷ []) ≡ s
-front_but_one s y = ap (λ (n : ℕ). take n (s ++ y ∷ [])) (count s) ∙ take_front s (y ∷ [])
+prefix_but_one : (s : List ℕ) (y : ℕ) → take (length (s ++ y ∷ []) - 1) (s ++ y ∷ []) ≡ s
+prefix_but_one s y = ap (λ (n : ℕ). take n (s ++ y ∷ [])) (count s) ∙ take_prefix s (y ∷ [])
   where
     count : (s : List ℕ) → length (s ++ y ∷ []) - 1 ≡ length s
     count [] = refl
@@ -67,7 +67,7 @@ front_but_one s y = ap (λ (n : ℕ). take n (s ++ y ∷ [])) (count s) ∙ take
 
 pub strip_cr : (s : List ℕ) → strip_carriage_return (s ++ 13 ∷ []) ≡ s
 strip_cr s =
-    strip_is (s ++ 13 ∷ []) ∙ ap (λ (n : ℕ). cond (n == 13) (take (length (s ++ 13 ∷ []) - 1) (s ++ 13 ∷ [])) (s ++ 13 ∷ [])) (last_one s 13) ∙ front_but_one s 13
+    strip_is (s ++ 13 ∷ []) ∙ ap (λ (n : ℕ). cond (n == 13) (take (length (s ++ 13 ∷ []) - 1) (s ++ 13 ∷ [])) (s ++ 13 ∷ [])) (last_one s 13) ∙ prefix_but_one s 13
 
 none_last : (last_of [] == 13) ≡ true → ⊥
 unfolding last_of
@@ -78,7 +78,7 @@ cr_behind [] e = absurd (none_last e)
 cr_behind (b ∷ bs) e =
     let at : slice_index (b ∷ bs) (length bs) ≡ last_of (b ∷ bs) = sym (ap (slice_index (b ∷ bs)) (less_one (length bs))) ∙ slice_last (b ∷ bs) in
     let is : last_of (b ∷ bs) ≡ 13 = grind (arith, nat_tests) in
-    front_and_last b bs ∙ ap (λ (n : ℕ). take (length bs) (b ∷ bs) ++ n ∷ []) (at ∙ is)
+    prefix_and_last b bs ∙ ap (λ (n : ℕ). take (length bs) (b ∷ bs) ++ n ∷ []) (at ∙ is)
     ∙ ap (λ (x : List ℕ). x ++ 13 ∷ []) (sym (strip_is (b ∷ bs) ∙ ap (λ (t : Bool). cond t (take (length (b ∷ bs) - 1) (b ∷ bs)) (b ∷ bs)) e ∙ ap (λ (n : ℕ). take n (b ∷ bs)) (less_one (length bs))))
 
 -- ---- cuts at LF
@@ -171,29 +171,29 @@ part_ended part h = elim (bool_cases (last_of part == 13)) [
 ]
 
 pub record IsParted (ls : List TextLine) : Type 0 where
-  pub front : List TextLine
+  pub prefix : List TextLine
   pub tail : List ℕ
-  pub is : ls ≡ front ++ unended tail
-  pub ended : Each IsEnded front
+  pub is : ls ≡ prefix ++ unended tail
+  pub ended : Each IsEnded prefix
   pub clean : IsClean tail
 
 parted : (parts : List (List ℕ)) → ClearAll parts → IsParted (lines_of_parts parts)
-parted [] h = record { front = []; tail = []; is = refl; ended = tt; clean = tt }
-parted (part ∷ []) h = record { front = []; tail = part; is = refl; ended = tt; clean = h.0 }
+parted [] h = record { prefix = []; tail = []; is = refl; ended = tt; clean = tt }
+parted (part ∷ []) h = record { prefix = []; tail = part; is = refl; ended = tt; clean = h.0 }
 parted (part ∷ next ∷ more) h =
     let r = parted (next ∷ more) h.1 in
-    record { front = ended part ∷ r.front; tail = r.tail; is = ap (λ (x : List TextLine). ended part ∷ x) r.is; ended = (part_ended part h.0, r.ended); clean = r.clean }
+    record { prefix = ended part ∷ r.prefix; tail = r.tail; is = ap (λ (x : List TextLine). ended part ∷ x) r.is; ended = (part_ended part h.0, r.ended); clean = r.clean }
 
 pub text_parted : (text : List ℕ) → IsParted (text_lines text)
 text_parted text = parted (slice_split (λ b. b == 10) text) (clean_parts text)
 
 -- ---- what ends with an LF
 
-front_ends : (ls : List TextLine) (tail : List ℕ) (b : ℕ) (bs : List ℕ) → tail ≡ b ∷ bs → IsClean tail → (last_of (flat_map whole ls ++ tail) == 10) ≡ false
-front_ends ls tail b bs e h =
+prefix_ends : (ls : List TextLine) (tail : List ℕ) (b : ℕ) (bs : List ℕ) → tail ≡ b ∷ bs → IsClean tail → (last_of (flat_map whole ls ++ tail) == 10) ≡ false
+prefix_ends ls tail b bs e h =
     ap (λ (x : List ℕ). last_of (flat_map whole ls ++ x) == 10) e ∙ ap (λ (n : ℕ). n == 10) (last_behind (flat_map whole ls) b bs) ∙ last_clean b bs (subst IsClean e h)
 
 -- the last line has its end
 pub no_tail : (ls : List TextLine) (tail : List ℕ) → IsClean tail → (last_of (flat_map whole ls ++ tail) == 10) ≡ true → tail ≡ []
 no_tail ls [] h e = refl
-no_tail ls (b ∷ bs) h e = let f : (last_of (flat_map whole ls ++ b ∷ bs) == 10) ≡ false = front_ends ls (b ∷ bs) b bs refl h in absurd cc
+no_tail ls (b ∷ bs) h e = let f : (last_of (flat_map whole ls ++ b ∷ bs) == 10) ≡ false = prefix_ends ls (b ∷ bs) b bs refl h in absurd cc

@@ -33,9 +33,9 @@ joined [] = []
 joined (part ∷ []) = part
 joined (part ∷ next ∷ more) = part ++ 10 ∷ joined (next ∷ more)
 
-pub front_and_last : (b : ℕ) (bs : List ℕ) → b ∷ bs ≡ take (length bs) (b ∷ bs) ++ slice_index (b ∷ bs) (length bs) ∷ []
-front_and_last b [] = refl
-front_and_last b (c ∷ bs) = ap (λ (xs : List ℕ). b ∷ xs) (front_and_last c bs)
+pub prefix_and_last : (b : ℕ) (bs : List ℕ) → b ∷ bs ≡ take (length bs) (b ∷ bs) ++ slice_index (b ∷ bs) (length bs) ∷ []
+prefix_and_last b [] = refl
+prefix_and_last b (c ∷ bs) = ap (λ (xs : List ℕ). b ∷ xs) (prefix_and_last c bs)
 
 pub less_one : (n : ℕ) → suc n - 1 ≡ n
 less_one n = omega arith
@@ -49,7 +49,7 @@ whole_ended (b ∷ bs) = rw (less_one (length bs)) (case (slice_index (b ∷ bs)
     case last e = elim (bool_cases (last == 13)) [
       | inl t ↦
           let is : last ≡ 13 = grind (arith, nat_tests) in
-          rw t (sym (ap (λ (xs : List ℕ). xs ++ 10 ∷ []) (front_and_last b bs ∙ ap (λ (n : ℕ). take (length bs) (b ∷ bs) ++ n ∷ []) (e ∙ is)) ∙ append_assoc (take (length bs) (b ∷ bs)) (13 ∷ []) (10 ∷ [])))
+          rw t (sym (ap (λ (xs : List ℕ). xs ++ 10 ∷ []) (prefix_and_last b bs ∙ ap (λ (n : ℕ). take (length bs) (b ∷ bs) ++ n ∷ []) (e ∙ is)) ∙ append_assoc (take (length bs) (b ∷ bs)) (13 ∷ []) (10 ∷ [])))
       | inr t ↦ rw t refl
     ]
 

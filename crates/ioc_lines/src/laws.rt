@@ -69,7 +69,7 @@ pub fn keys_get_their_new_pin()
 
 /// A key of a pin, whose name begins with P, is named by what stands from its last dot on.
 pub fn keys_of_pins_are_named()
-    ensures { (front rest bs : List ℕ) → front ≡ 80 ∷ bs → last_dot rest ≡ None → is_named (front ++ 46 ∷ rest) ≡ is_suffix (46 ∷ rest) }
+    ensures { (prefix rest bs : List ℕ) → prefix ≡ 80 ∷ bs → last_dot rest ≡ None → is_named (prefix ++ 46 ∷ rest) ≡ is_suffix (46 ∷ rest) }
 {}
 
 /// A number is written as it is, and what prints has no LF.

@@ -2,7 +2,7 @@
 ghost use Rattle.std.specs.Prelude.{◌≡◌, ◌≤◌, ◌+◌, length, IfOk};
 ghost use Rattle.ioc_project.specs.Project.{capped, need_of, known_need, needs_from, few};
 ghost use Rattle.refusal.specs.Refusals.{Gives, Tells};
-ghost use Rattle.res_model.specs.Steps.{with_front};
+ghost use Rattle.res_model.specs.Steps.{with_prefix};
 
 use crate::fault::ProjectFault;
 use refusal::Refusal;
@@ -58,7 +58,7 @@ pub(crate) fn push_needs(
     signals: &mut Vec<Signal>,
     names: &[Text],
 ) -> Result<(), Refusal<ProjectFault>>
-    ensures { Gives (λ _. signals.new.items) result (with_front signals.old.items (needs_from t.now 1 names.now)) }
+    ensures { Gives (λ _. signals.new.items) result (with_prefix signals.old.items (needs_from t.now 1 names.now)) }
 {
     for (at, name) in names.iter().enumerate() {
         let need = need_of(alloc, t, at + 1, name)?;

@@ -22,15 +22,15 @@ module _ (line : List ℕ) (at : ℕ) (old new : Bool) (lt : at < length line) w
   unfolding equals_from
   past_other o e n = rw (n, o, first_and_more line at lt, differs (get_or line at 0) 61 e) refl
 
-pub two_fronts : (front bytes : List ℕ) (rest : Option (List ℕ)) → after_bytes front (after_bytes bytes rest) ≡ after_bytes (front ++ bytes) rest
-two_fronts front bytes None = refl
-two_fronts front bytes (Some more) = ap Some (sym (append_assoc front bytes more))
+pub two_prefixes : (prefix bytes : List ℕ) (rest : Option (List ℕ)) → after_bytes prefix (after_bytes bytes rest) ≡ after_bytes (prefix ++ bytes) rest
+two_prefixes prefix bytes None = refl
+two_prefixes prefix bytes (Some more) = ap Some (sym (append_assoc prefix bytes more))
 
 module _ (bytes out next : List ℕ) (at : ℕ) (old new : Bool) (lt : at < length bytes) where
   pub undo_escaped : old ≡ true → is_escapable (get_or bytes at 0) ≡ true → next ≡ out ++ get_or bytes at 0 ∷ [] → new ≡ false
       → after_bytes next (undone_from new (drop (at + 1) bytes)) ≡ after_bytes out (undone_from old (drop at bytes))
   unfolding undone_from
-  undo_escaped o e p n = rw (n, o, p, first_and_more bytes at lt, e) (sym (two_fronts out (get_or bytes at 0 ∷ []) (undone_from false (drop (at + 1) bytes))))
+  undo_escaped o e p n = rw (n, o, p, first_and_more bytes at lt, e) (sym (two_prefixes out (get_or bytes at 0 ∷ []) (undone_from false (drop (at + 1) bytes))))
 
   pub undo_backslash : old ≡ false → get_or bytes at 0 ≡ 92 → next ≡ out → new ≡ true
       → after_bytes next (undone_from new (drop (at + 1) bytes)) ≡ after_bytes out (undone_from old (drop at bytes))
@@ -40,4 +40,4 @@ module _ (bytes out next : List ℕ) (at : ℕ) (old new : Bool) (lt : at < leng
   pub undo_plain : old ≡ false → get_or bytes at 0 ≢ 92 → next ≡ out ++ get_or bytes at 0 ∷ [] → new ≡ false
       → after_bytes next (undone_from new (drop (at + 1) bytes)) ≡ after_bytes out (undone_from old (drop at bytes))
   unfolding undone_from
-  undo_plain o e p n = rw (n, o, p, first_and_more bytes at lt, differs (get_or bytes at 0) 92 e) (sym (two_fronts out (get_or bytes at 0 ∷ []) (undone_from false (drop (at + 1) bytes))))
+  undo_plain o e p n = rw (n, o, p, first_and_more bytes at lt, differs (get_or bytes at 0) 92 e) (sym (two_prefixes out (get_or bytes at 0 ∷ []) (undone_from false (drop (at + 1) bytes))))

@@ -25,8 +25,8 @@ equals_at line = equals_from false 0 line
 
 -- these bytes, and then those that are read of the rest
 abbrev pub after_bytes : List ℕ → Option (List ℕ) → Option (List ℕ)
-after_bytes front None = None
-after_bytes front (Some bytes) = Some (front ++ bytes)
+after_bytes prefix None = None
+after_bytes prefix (Some bytes) = Some (prefix ++ bytes)
 
 -- the bytes with escapes undone: a backslash and an escapable byte stand for that byte, and any other
 -- backslash has no meaning. in_pair says that a backslash stands before the first byte

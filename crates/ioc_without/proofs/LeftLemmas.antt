@@ -176,9 +176,9 @@ pub quiet : (n : ℕ) → line_of n [] ≡ Ok None
 unfolding line_of
 quiet n = refl
 
-left_at : (n : ℕ) (front : Read) (line other : List ℕ) (tail : List (List ℕ)) (ioc : List Line) → ((found : List Line) → front ≡ Ok found → without n found ≡ found)
+left_at : (n : ℕ) (prefix : Read) (line other : List ℕ) (tail : List (List ℕ)) (ioc : List Line) → ((found : List Line) → prefix ≡ Ok found → without n found ≡ found)
     → (length line ≤ 65535 → line_of n other ≡ Ok None)
-    → (front >>= (λ found. ioc_after found n (line ∷ tail))) ≡ Ok ioc → (front >>= (λ found. ioc_after found n (other ∷ tail))) ≡ Ok (without n ioc)
+    → (prefix >>= (λ found. ioc_after found n (line ∷ tail))) ≡ Ok ioc → (prefix >>= (λ found. ioc_after found n (other ∷ tail))) ≡ Ok (without n ioc)
 unfolding with_line
 left_at n (Err fault) line other tail ioc kept still h = cc
 left_at n (Ok found) line other tail ioc kept still h =
@@ -186,12 +186,12 @@ left_at n (Ok found) line other tail ioc kept still h =
     rw says (at_line n found line tail ioc (line_of n line) refl (kept found refl) h)
 
 -- a line that says nothing in the place of one leaves the others
-pub left_out : (n : ℕ) (front : List (List ℕ)) (line other : List ℕ) (tail : List (List ℕ)) (ioc : List Line) → 1 + length front ≡ n → (length line ≤ 65535 → line_of n other ≡ Ok None)
-    → ioc_after [] 1 (front ++ line ∷ tail) ≡ Ok ioc → ioc_after [] 1 (front ++ other ∷ tail) ≡ Ok (without n ioc)
-left_out n front line other tail ioc count still h =
-    let read : (ioc_after [] 1 front >>= (λ found. ioc_after found n (line ∷ tail))) ≡ Ok ioc =
-    subst (λ (k : ℕ). (ioc_after [] 1 front >>= (λ found. ioc_after found k (line ∷ tail))) ≡ Ok ioc) count (sym (ioc_append [] 1 front (line ∷ tail)) ∙ h) in
-    let kept = λ (found : List Line) (e : ioc_after [] 1 front ≡ Ok found). below_after n 1 front [] found (omega (arith, count)) refl e in
-    ioc_append [] 1 front (other ∷ tail)
-    ∙ subst (λ (k : ℕ). (ioc_after [] 1 front >>= (λ found. ioc_after found k (other ∷ tail))) ≡ Ok (without n ioc)) (sym count)
-    (left_at n (ioc_after [] 1 front) line other tail ioc kept still read)
+pub left_out : (n : ℕ) (prefix : List (List ℕ)) (line other : List ℕ) (tail : List (List ℕ)) (ioc : List Line) → 1 + length prefix ≡ n → (length line ≤ 65535 → line_of n other ≡ Ok None)
+    → ioc_after [] 1 (prefix ++ line ∷ tail) ≡ Ok ioc → ioc_after [] 1 (prefix ++ other ∷ tail) ≡ Ok (without n ioc)
+left_out n prefix line other tail ioc count still h =
+    let read : (ioc_after [] 1 prefix >>= (λ found. ioc_after found n (line ∷ tail))) ≡ Ok ioc =
+    subst (λ (k : ℕ). (ioc_after [] 1 prefix >>= (λ found. ioc_after found k (line ∷ tail))) ≡ Ok ioc) count (sym (ioc_append [] 1 prefix (line ∷ tail)) ∙ h) in
+    let kept = λ (found : List Line) (e : ioc_after [] 1 prefix ≡ Ok found). below_after n 1 prefix [] found (omega (arith, count)) refl e in
+    ioc_append [] 1 prefix (other ∷ tail)
+    ∙ subst (λ (k : ℕ). (ioc_after [] 1 prefix >>= (λ found. ioc_after found k (other ∷ tail))) ≡ Ok (without n ioc)) (sym count)
+    (left_at n (ioc_after [] 1 prefix) line other tail ioc kept still read)

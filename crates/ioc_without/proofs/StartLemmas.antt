@@ -19,7 +19,7 @@ ends text = count_by (λ b. eqb b 10) text
 
 set_is : (text : List ℕ) (at y : ℕ) → at < length text → set text at y ≡ take at text ++ y ∷ drop (at + 1) text
 set_is text at y l =
-    sym (take-append-drop at (set text at y)) ∙ ap (λ (front : List ℕ). front ++ drop at (set text at y)) (take-set text at y)
+    sym (take-append-drop at (set text at y)) ∙ ap (λ (prefix : List ℕ). prefix ++ drop at (set text at y)) (take-set text at y)
     ∙ ap (λ (rest : List ℕ). take at text ++ rest) (drop-set text at y l)
 
 text_is : (text : List ℕ) (at : ℕ) → at < length text → text ≡ take at text ++ get_or text at 0 ∷ drop (at + 1) text
@@ -34,20 +34,20 @@ counts f =
     let parts : length (slice_split p (f ++ 10 ∷ [])) ≡ length (slice_split p f) + 1 = ap length (split_cut p f [] 10 refl) ∙ length-append (slice_split p f) ([] ∷ []) in
     omega (arith, parts, length-slice_split p f, length-slice_split p (f ++ 10 ∷ []))
 
--- ---- whole lines in front
-record Front (front : List ℕ) : Type 0 where
+-- ---- whole lines before others
+record Prefix (prefix : List ℕ) : Type 0 where
   pub before : List (List ℕ)
-  pub long : length before ≡ ends front
-  pub is : (rest : List ℕ) → lines (front ++ rest) ≡ before ++ lines rest
+  pub long : length before ≡ ends prefix
+  pub is : (rest : List ℕ) → lines (prefix ++ rest) ≡ before ++ lines rest
 
-front_of : (front : List ℕ) → AreWhole front → Front front
-front_of front (inl e) = record {
+prefix_of : (prefix : List ℕ) → AreWhole prefix → Prefix prefix
+prefix_of prefix (inl e) = record {
   before = [];
   long = sym (ap ends e);
   is = λ rest. ap (λ (l : List ℕ). lines (l ++ rest)) e;
 }
-front_of front (inr (f, e)) =
-    let counted : ends front ≡ ends f + 1 = ap ends e ∙ counts f in
+prefix_of prefix (inr (f, e)) =
+    let counted : ends prefix ≡ ends f + 1 = ap ends e ∙ counts f in
     let long : length (lines_before f) ≡ ends f + 1 = length-map (slice_split (λ b. eqb b 10) f) strip_carriage_return ∙ length-slice_split (λ b. eqb b 10) f in
     record {
       before = lines_before f;
@@ -69,10 +69,10 @@ begins_at number x more ioc some before count h =
     subst (λ (l : List (List ℕ)). ioc_after [] 1 (before ++ l) ≡ Ok (without number ioc)) (sym f.becomes)
     (left_out number before f.line f.other f.tail ioc count (quiet_for number x more f) read)
 
-cut_at : (number x : ℕ) (more : List ℕ) (ioc : List Line) → eqb x 10 ≡ false → (front : List ℕ) → Front front → ends front + 1 ≡ number
-    → ioc_of (front ++ x ∷ more) ≡ Ok ioc → ioc_of (front ++ 35 ∷ more) ≡ Ok (without number ioc)
+cut_at : (number x : ℕ) (more : List ℕ) (ioc : List Line) → eqb x 10 ≡ false → (prefix : List ℕ) → Prefix prefix → ends prefix + 1 ≡ number
+    → ioc_of (prefix ++ x ∷ more) ≡ Ok ioc → ioc_of (prefix ++ 35 ∷ more) ≡ Ok (without number ioc)
 unfolding ioc_of
-cut_at number x more ioc some front w count h =
+cut_at number x more ioc some prefix w count h =
     let read : ioc_after [] 1 (w.before ++ lines (x ∷ more)) ≡ Ok ioc = subst (λ (l : List (List ℕ)). ioc_after [] 1 l ≡ Ok ioc) (w.is (x ∷ more)) h in
     subst (λ (l : List (List ℕ)). ioc_after [] 1 l ≡ Ok (without number ioc)) (sym (w.is (35 ∷ more)))
     (begins_at number x more ioc some w.before (omega (arith, w.long, count)) read)
@@ -83,7 +83,7 @@ read_left text number at ioc s h =
     let differs : x ≢ 10 = s.some_byte in
     let some : eqb x 10 ≡ false = grind (arith, nat_tests) in
     subst (λ (t : List ℕ). ioc_of t ≡ Ok (without number ioc)) (sym (set_is text at 35 s.inside))
-    (cut_at number x (drop (at + 1) text) ioc some (take at text) (front_of (take at text) s.whole) s.before
+    (cut_at number x (drop (at + 1) text) ioc some (take at text) (prefix_of (take at text) s.whole) s.before
     (subst (λ (t : List ℕ). ioc_of t ≡ Ok ioc) (text_is text at s.inside) h))
 
 -- ---- a line that says nothing
@@ -99,7 +99,7 @@ parts_few (x ∷ y ∷ more) = omega (arith, parts_few (y ∷ more))
 few_lines : (text : List ℕ) → length (lines text) ≤ ends text + 1
 few_lines text = omega (arith, parts_few (slice_split (λ b. eqb b 10) text), length-slice_split (λ b. eqb b 10) text)
 
-whole_few : (text : List ℕ) → Front text → length (lines text) ≤ ends text
+whole_few : (text : List ℕ) → Prefix text → length (lines text) ≤ ends text
 whole_few text w =
     let is : lines text ≡ w.before ++ [] = ap lines (sym (append-nil text)) ∙ w.is [] in
     omega (arith, ap length is, ap length (append-nil w.before), w.long)
@@ -115,9 +115,9 @@ all_above text number ioc e h =
     let both : Ok (without number ioc) ≡ Ok ioc = sym kept ∙ h in
     cc
 
-empty_line : (number : ℕ) (more : List ℕ) (ioc : List Line) (front : List ℕ) → Front front → ends front + 1 ≡ number → ioc_of (front ++ 10 ∷ more) ≡ Ok ioc → without number ioc ≡ ioc
+empty_line : (number : ℕ) (more : List ℕ) (ioc : List Line) (prefix : List ℕ) → Prefix prefix → ends prefix + 1 ≡ number → ioc_of (prefix ++ 10 ∷ more) ≡ Ok ioc → without number ioc ≡ ioc
 unfolding ioc_of
-empty_line number more ioc front w count h =
+empty_line number more ioc prefix w count h =
     let here : lines (10 ∷ more) ≡ [] ∷ lines more = lines_cut [] more in
     let read : ioc_after [] 1 (w.before ++ [] ∷ lines more) ≡ Ok ioc = subst (λ (l : List (List ℕ)). ioc_after [] 1 l ≡ Ok ioc) (w.is (10 ∷ more) ∙ ap (λ (l : List (List ℕ)). w.before ++ l) here) h in
     let left : ioc_after [] 1 (w.before ++ [] ∷ lines more) ≡ Ok (without number ioc) = left_out number w.before [] [] (lines more) ioc (omega (arith, w.long, count)) (λ l. quiet number) read in
@@ -127,10 +127,10 @@ empty_line number more ioc front w count h =
 pub nothing_left : (text : List ℕ) (number : ℕ) (ioc : List Line) → SaysNothing text number → ioc_of text ≡ Ok ioc → without number ioc ≡ ioc
 nothing_left text number ioc (none e) h = all_above text number ioc e h
 nothing_left text number ioc (past l) h = all_below text number ioc (omega (arith, few_lines text, l)) h
-nothing_left text number ioc (ended whole count) h = all_below text number ioc (omega (arith, whole_few text (front_of text whole), count)) h
+nothing_left text number ioc (ended whole count) h = all_below text number ioc (omega (arith, whole_few text (prefix_of text whole), count)) h
 nothing_left text number ioc (empty at inside whole count byte) h =
     let is : text ≡ take at text ++ 10 ∷ drop (at + 1) text = text_is text at inside ∙ ap (λ (b : ℕ). take at text ++ b ∷ drop (at + 1) text) byte in
-    empty_line number (drop (at + 1) text) ioc (take at text) (front_of (take at text) whole) count (subst (λ (t : List ℕ). ioc_of t ≡ Ok ioc) is h)
+    empty_line number (drop (at + 1) text) ioc (take at text) (prefix_of (take at text) whole) count (subst (λ (t : List ℕ). ioc_of t ≡ Ok ioc) is h)
 
 pub left_is_read : (text left : List ℕ) (number : ℕ) (ioc : List Line) → IsWithout text number left → ioc_of text ≡ Ok ioc → ioc_of left ≡ Ok (without number ioc)
 left_is_read text left number ioc (remarked at start is) h = subst (λ (t : List ℕ). ioc_of t ≡ Ok (without number ioc)) (sym is) (read_left text number at ioc start h)

@@ -3,7 +3,7 @@ use Rattle.std.specs.Prelude.{◌≡◌, ◌≢◌, ◌⊎◌, ℕ, ◌+◌, ◌
 
 -- a list of whole lines
 abbrev pub AreWhole : List ℕ → Type 0
-AreWhole front = (front ≡ []) ⊎ ((f : List ℕ) × (front ≡ f ++ 10 ∷ []))
+AreWhole prefix = (prefix ≡ []) ⊎ ((f : List ℕ) × (prefix ≡ f ++ 10 ∷ []))
 
 -- the line of a number, which is not empty, begins there
 pub record IsStart (text : List ℕ) (number at : ℕ) : Type 0 where

@@ -23,19 +23,19 @@ number_read n l =
     let within : nat_le n 65535 ≡ true = grind (arith, nat_tests) in
     rw (number_is (decimal n) n below refl, within) refl
 
-after_read : (front : List ℕ) (n : ℕ) → n ≤ 65535 → starts_with nat_eq (front ++ decimal n) front ≡ true → drop (length front) (front ++ decimal n) ≡ decimal n
-    → number_after front (front ++ decimal n) ≡ Some n
+after_read : (prefix : List ℕ) (n : ℕ) → n ≤ 65535 → starts_with nat_eq (prefix ++ decimal n) prefix ≡ true → drop (length prefix) (prefix ++ decimal n) ≡ decimal n
+    → number_after prefix (prefix ++ decimal n) ≡ Some n
 unfolding number_after
-after_read front n l s d = rw (s, d) (number_read n l)
+after_read prefix n l s d = rw (s, d) (number_read n l)
 
 same_byte : (b : ℕ) → nat_eq b b ≡ true
 same_byte b = grind (arith, nat_tests)
 
-starts : (front more : List ℕ) → starts_with nat_eq (front ++ more) front ≡ true
+starts : (prefix more : List ℕ) → starts_with nat_eq (prefix ++ more) prefix ≡ true
 starts [] more = refl
 starts (b ∷ bs) more = rw (same_byte b) (starts bs more)
 
-drops : (front more : List ℕ) → drop (length front) (front ++ more) ≡ more
+drops : (prefix more : List ℕ) → drop (length prefix) (prefix ++ more) ≡ more
 drops [] more = refl
 drops (b ∷ bs) more = drops bs more
 

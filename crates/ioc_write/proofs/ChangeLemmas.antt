@@ -158,7 +158,7 @@ module _ (p : ProblemParts) (at : List ℕ) (set : IsSet p at) where
   -- a key whose lines move has a dot, and its new key begins with P
   pub record KeyMoves (key next : List ℕ) (q : ℕ) : Type 0 where
     pub dots : IsDotted key
-    pub moving : NameMoves dots.front q
+    pub moving : NameMoves dots.prefix q
     pub is : next ≡ pin_name p.tables q ++ 46 ∷ dots.rest
     pub begins : (bs : List ℕ) × (next ≡ 80 ∷ bs)
     pub inside : q < length p.tables.pins

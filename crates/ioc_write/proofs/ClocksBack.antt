@@ -184,10 +184,10 @@ member_variable variable.Apb2 = inr (inr (inr (inr (inr (inr (inr (inr (inl refl
 
 -- ---- a home that is written
 
-module _ (p : ProblemParts) (at : List ℕ) (set : IsSet p at) (pins : ℕ) (es front more : List Entry) (apart : AreApart es) (near : NearAll (flat_map (changed p at pins) es) front) (all : AreApart (front ++ more))
+module _ (p : ProblemParts) (at : List ℕ) (set : IsSet p at) (pins : ℕ) (es prefix more : List Entry) (apart : AreApart es) (near : NearAll (flat_map (changed p at pins) es) prefix) (all : AreApart (prefix ++ more))
     (range : IsInRange (clock_at p.clock at)) (v : Variable) where
   abbrev out : Option (List ℕ)
-  out = lookup (front ++ more) (clock_key v)
+  out = lookup (prefix ++ more) (clock_key v)
 
   changed_is : (x : List ℕ) → changed p at pins (clock_key v, x) ≡ entry_said p at pins (clock_key v, x) (cond (is_away p at v) (change.Set v) change.Kept)
   changed_is x = with_other p at pins (clock_key v, x) (number_none v) (count_none v) (Some v) (variable_of_key v)
@@ -196,13 +196,13 @@ module _ (p : ProblemParts) (at : List ℕ) (set : IsSet p at) (pins : ℕ) (es 
   spelled_ends = print_ends (spelled (clock_at p.clock at) v) (spelled_value (clock_at p.clock at) range v).print
 
   away_as : (o : Option (List ℕ)) → lookup es (clock_key v) ≡ o → is_away p at v ≡ true → (o ≡ None → Member (clock_key v, spelled (clock_at p.clock at) v) more) → out ≡ Some (spelled (clock_at p.clock at) v)
-  away_as None e y m = lookup_added p at set pins es front more apart near all (clock_key v) (spelled (clock_at p.clock at) v) (m refl)
-  away_as (Some x) e y m = lookup_to p at set pins es front more apart near all (clock_key v) x (spelled (clock_at p.clock at) v) e
+  away_as None e y m = lookup_added p at set pins es prefix more apart near all (clock_key v) (spelled (clock_at p.clock at) v) (m refl)
+  away_as (Some x) e y m = lookup_to p at set pins es prefix more apart near all (clock_key v) x (spelled (clock_at p.clock at) v) e
       (changed_is x ∙ ap (λ (b : Bool). entry_said p at pins (clock_key v, x) (cond b (change.Set v) change.Kept)) y) spelled_ends
 
   home_as : (default w : ℕ) (o : Option (List ℕ)) → lookup es (clock_key v) ≡ o → is_away p at v ≡ false → Means default (form_of v) o w → FarFrom (clock_key v) more → o ≡ out
-  home_as default w None e n m far = sym (lookup_none p at set pins es front more apart near all (clock_key v) (by_same refl (special_clock (clock_key v) v (variable_of_key v))) e far)
-  home_as default w (Some x) e n m far = sym (lookup_to p at set pins es front more apart near all (clock_key v) x x e
+  home_as default w None e n m far = sym (lookup_none p at set pins es prefix more apart near all (clock_key v) (by_same refl (special_clock (clock_key v) v (variable_of_key v))) e far)
+  home_as default w (Some x) e n m far = sym (lookup_to p at set pins es prefix more apart near all (clock_key v) x x e
       (changed_is x ∙ ap (λ (b : Bool). entry_said p at pins (clock_key v, x) (cond b (change.Set v) change.Kept)) n) (form_ends v x w m))
 
   pub clock_means : (default w0 w : ℕ) → Means default (form_of v) (lookup es (clock_key v)) w0 → (is_away p at v ≡ false → w0 ≡ w) → value_in (clock_at p.clock at) v ≡ w

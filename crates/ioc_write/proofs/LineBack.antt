@@ -110,14 +110,14 @@ module _ (p : ProblemParts) (at : List ℕ) (set : IsSet p at) where
       record { is = refl; print = escaped_print (pin_name p.tables q) (name_prints q l); first = s.0; more = s.1; some = ap escaped b.1 ∙ s.2 }
 
   -- a key is named where the key is with another pin
-  pub named_stays : (key next : List ℕ) (q : ℕ) (m : KeyMoves p at set key next q) → is_named (pin_name p.tables q ++ drop (length m.dots.front) key) ≡ is_named key
+  pub named_stays : (key next : List ℕ) (q : ℕ) (m : KeyMoves p at set key next q) → is_named (pin_name p.tables q ++ drop (length m.dots.prefix) key) ≡ is_named key
   named_stays key next q m =
       let d = m.dots in
-      let cut : drop (length d.front) key ≡ 46 ∷ d.rest = ap (drop (length d.front)) d.is ∙ drop_at d.front (46 ∷ d.rest) (length d.front) refl in
+      let cut : drop (length d.prefix) key ≡ 46 ∷ d.rest = ap (drop (length d.prefix)) d.is ∙ drop_at d.prefix (46 ∷ d.rest) (length d.prefix) refl in
       let b = begins_with_p p.tables set.are q m.inside in
       let a = begins_with_p p.tables set.are m.moving.home m.moving.inside in
       ap (λ (x : List ℕ). is_named (pin_name p.tables q ++ x)) cut ∙ named_by_rest (pin_name p.tables q) d.rest b.0 b.1 d.none
-      ∙ sym (ap is_named d.is ∙ named_by_rest d.front d.rest a.0 (sym m.moving.there ∙ a.1) d.none)
+      ∙ sym (ap is_named d.is ∙ named_by_rest d.prefix d.rest a.0 (sym m.moving.there ∙ a.1) d.none)
 
 -- ---- one line
 
@@ -199,7 +199,7 @@ module _ (p : ProblemParts) (at : List ℕ) (pins : ℕ) (set : IsSet p at) (ran
       by_change (change.Renamed x) q r f =
           let m = key_moves p at set k.key (pin_name p.tables x ++ rest_from k.key (last_dot k.key)) x r refl in
           let t = limit n (with_pin l.says k.equals (escaped (pin_name p.tables x))) l.end w f in
-          let dot = length m.dots.front in
+          let dot = length m.dots.prefix in
           let new = named_line l.says k h clean dot m.dots.dot (pin_name p.tables x) (name_some p at set x m.inside) (name_prints p at set x m.inside) v
           (named_stays p at set k.key (pin_name p.tables x ++ rest_from k.key (last_dot k.key)) x m ∙ nm) value t.0 in
           is_anew (with_pin l.says k.equals (escaped (pin_name p.tables x))) t.1 (record {
@@ -230,7 +230,7 @@ module _ (p : ProblemParts) (at : List ℕ) (pins : ℕ) (set : IsSet p at) (ran
       other_fate (fate.Moved x) q f =
           let m = key_moves p at set k.key (pin_name p.tables x ++ rest_from k.key (last_dot k.key)) x q refl in
           let t = limit n (with_pin l.says k.equals (escaped (pin_name p.tables x))) l.end w f in
-          let dot = length m.dots.front in
+          let dot = length m.dots.prefix in
           let new = unnamed_line l.says k h clean dot m.dots.dot (pin_name p.tables x) (name_some p at set x m.inside) (name_prints p at set x m.inside)
           (named_stays p at set k.key (pin_name p.tables x ++ rest_from k.key (last_dot k.key)) x m ∙ nm) t.0 in
           is_anew (with_pin l.says k.equals (escaped (pin_name p.tables x))) t.1 (record { reads = new.reads; clean = new.clean; cr = new.cr; is = new.is ∙ sym out_none })

@@ -33,8 +33,8 @@ pub record IsValue (value raw : List ℕ) : Type 0 where
   pub some : raw ≡ first ∷ more
 
 module _ (says : List ℕ) (k : Keyed) (h : keyed says ≡ Some k) (clean : IsClean says) where
-  front_clean : IsClean (cut says k h).front × IsClean (61 ∷ (cut says k h).rest)
-  front_clean = each_parts (λ (b : ℕ). (b == 10) ≡ false) (cut says k h).front (61 ∷ (cut says k h).rest) (subst IsClean (cut says k h).whole clean)
+  prefix_clean : IsClean (cut says k h).prefix × IsClean (61 ∷ (cut says k h).rest)
+  prefix_clean = each_parts (λ (b : ℕ). (b == 10) ≡ false) (cut says k h).prefix (61 ∷ (cut says k h).rest) (subst IsClean (cut says k h).whole clean)
 
   -- another value
   pub value_line : (value raw : List ℕ) → IsValue value raw → is_named k.key ≡ true → length (with_value says k.equals raw) ≤ 65535 → NewLine says (with_value says k.equals raw) ((k.key, value) ∷ [])
@@ -47,8 +47,8 @@ module _ (says : List ℕ) (k : Keyed) (h : keyed says ≡ Some k) (clean : IsCl
       let ends : (last_of (61 ∷ raw) == 13) ≡ false = subst (λ (x : List ℕ). (last_of (61 ∷ x) == 13) ≡ false) (sym v.some) (print_last v.first v.more print) in
       record {
         reads = r.0;
-        clean = subst IsClean (sym is) (each_append (λ (b : ℕ). (b == 10) ≡ false) (cut says k h).front (61 ∷ raw) front_clean.0 (refl, print_clean raw v.print));
-        cr = λ _. ap (λ (x : List ℕ). last_of x == 13) is ∙ ap (λ (b : ℕ). b == 13) (last_behind (cut says k h).front 61 raw) ∙ ends;
+        clean = subst IsClean (sym is) (each_append (λ (b : ℕ). (b == 10) ≡ false) (cut says k h).prefix (61 ∷ raw) prefix_clean.0 (refl, print_clean raw v.print));
+        cr = λ _. ap (λ (x : List ℕ). last_of x == 13) is ∙ ap (λ (b : ℕ). b == 13) (last_behind (cut says k h).prefix 61 raw) ∙ ends;
         is = ap entry_if r.1;
       }
 
@@ -67,13 +67,13 @@ module _ (says : List ℕ) (k : Keyed) (h : keyed says ≡ Some k) (clean : IsCl
 
     anew_clean : IsClean anew
     anew_clean = subst IsClean (sym new.is)
-        (each_append (λ (b : ℕ). (b == 10) ≡ false) (escaped name ++ drop new.cut_at (cut says k h).front) (61 ∷ (cut says k h).rest)
-        (each_append (λ (b : ℕ). (b == 10) ≡ false) (escaped name) (drop new.cut_at (cut says k h).front) (print_clean (escaped name) (escaped_print name print)) (dropped new.cut_at (cut says k h).front front_clean.0)) front_clean.1)
+        (each_append (λ (b : ℕ). (b == 10) ≡ false) (escaped name ++ drop new.cut_at (cut says k h).prefix) (61 ∷ (cut says k h).rest)
+        (each_append (λ (b : ℕ). (b == 10) ≡ false) (escaped name) (drop new.cut_at (cut says k h).prefix) (print_clean (escaped name) (escaped_print name print)) (dropped new.cut_at (cut says k h).prefix prefix_clean.0)) prefix_clean.1)
 
     anew_cr : (last_of says == 13) ≡ false → (last_of anew == 13) ≡ false
     anew_cr e =
-        let before : last_of says ≡ last_of (61 ∷ (cut says k h).rest) = ap last_of (cut says k h).whole ∙ last_behind (cut says k h).front 61 (cut says k h).rest in
-        let after : last_of anew ≡ last_of (61 ∷ (cut says k h).rest) = ap last_of new.is ∙ last_behind (escaped name ++ drop new.cut_at (cut says k h).front) 61 (cut says k h).rest in
+        let before : last_of says ≡ last_of (61 ∷ (cut says k h).rest) = ap last_of (cut says k h).whole ∙ last_behind (cut says k h).prefix 61 (cut says k h).rest in
+        let after : last_of anew ≡ last_of (61 ∷ (cut says k h).rest) = ap last_of new.is ∙ last_behind (escaped name ++ drop new.cut_at (cut says k h).prefix) 61 (cut says k h).rest in
         ap (λ (b : ℕ). b == 13) (after ∙ sym before) ∙ e
 
     pub named_line : (value : List ℕ) → is_named (name ++ drop dot k.key) ≡ true → undone (drop (k.equals + 1) says) ≡ Some value → length anew ≤ 65535

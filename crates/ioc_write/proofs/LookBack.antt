@@ -84,18 +84,18 @@ pub record IsPlainKey (key : List ℕ) : Type 0 where
 
 -- ---- the value of a key
 
-module _ (p : ProblemParts) (at : List ℕ) (set : IsSet p at) (pins : ℕ) (es front more : List Entry) (apart : AreApart es) (near : NearAll (flat_map (changed p at pins) es) front) (all : AreApart (front ++ more)) where
+module _ (p : ProblemParts) (at : List ℕ) (set : IsSet p at) (pins : ℕ) (es prefix more : List Entry) (apart : AreApart es) (near : NearAll (flat_map (changed p at pins) es) prefix) (all : AreApart (prefix ++ more)) where
   -- what an entry becomes is there
-  pub becomes_there : (key v next w : List ℕ) → Member (key, v) es → changed p at pins (key, v) ≡ (next, w) ∷ [] → DoesNotEndInCr w → lookup (front ++ more) next ≡ Some w
+  pub becomes_there : (key v next w : List ℕ) → Member (key, v) es → changed p at pins (key, v) ≡ (next, w) ∷ [] → DoesNotEndInCr w → lookup (prefix ++ more) next ≡ Some w
   becomes_there key v next w m e d =
       let there : Member (next, w) (changed p at pins (key, v)) = subst (Member (next, w)) (sym e) (inl refl) in
-      lookup_in (front ++ more) next w all (member_left (next, w) front more (near_member (flat_map (changed p at pins) es) front next w near (flat_member (changed p at pins) es (key, v) (next, w) m there) d))
+      lookup_in (prefix ++ more) next w all (member_left (next, w) prefix more (near_member (flat_map (changed p at pins) es) prefix next w near (flat_member (changed p at pins) es (key, v) (next, w) m there) d))
 
-  pub lookup_to : (key v w : List ℕ) → lookup es key ≡ Some v → changed p at pins (key, v) ≡ (key, w) ∷ [] → DoesNotEndInCr w → lookup (front ++ more) key ≡ Some w
+  pub lookup_to : (key v w : List ℕ) → lookup es key ≡ Some v → changed p at pins (key, v) ≡ (key, w) ∷ [] → DoesNotEndInCr w → lookup (prefix ++ more) key ≡ Some w
   lookup_to key v w l e d = becomes_there key v key w (in_lookup es key v l) e d
 
-  pub lookup_added : (key v : List ℕ) → Member (key, v) more → lookup (front ++ more) key ≡ Some v
-  lookup_added key v m = lookup_in (front ++ more) key v all (member_right (key, v) front more m)
+  pub lookup_added : (key v : List ℕ) → Member (key, v) more → lookup (prefix ++ more) key ≡ Some v
+  lookup_added key v m = lookup_in (prefix ++ more) key v all (member_right (key, v) prefix more m)
 
   reached : (e f : Entry) (fs : List Entry) → BecomesOne p at e fs → Member f fs → Becomes p at e.0 f.0
   reached e f fs (is_nothing q) m = absurd (subst (Member f) q m)
@@ -111,17 +111,17 @@ module _ (p : ProblemParts) (at : List ℕ) (set : IsSet p at) (pins : ℕ) (es 
   far_member key v (f ∷ fs) h (inr m) = far_member key v fs h.1 m
 
   -- a key that no entry's key becomes, and that is not appended
-  pub nowhere : (key : List ℕ) → ((e : Entry) → Member e es → Becomes p at e.0 key → ⊥) → FarFrom key more → lookup (front ++ more) key ≡ None
-  nowhere key none far = lookup_out (front ++ more) key (λ w m. by w (member_split (key, w) front more m))
+  pub nowhere : (key : List ℕ) → ((e : Entry) → Member e es → Becomes p at e.0 key → ⊥) → FarFrom key more → lookup (prefix ++ more) key ≡ None
+  nowhere key none far = lookup_out (prefix ++ more) key (λ w m. by w (member_split (key, w) prefix more m))
     where
-      by : (w : List ℕ) → Member (key, w) front ⊎ Member (key, w) more → ⊥
+      by : (w : List ℕ) → Member (key, w) prefix ⊎ Member (key, w) more → ⊥
       by w (inl m) =
-          let n = member_near (flat_map (changed p at pins) es) front key w near m in
+          let n = member_near (flat_map (changed p at pins) es) prefix key w near m in
           let f = member_flat (changed p at pins) es (key, n.value) n.member in
           none f.entry f.member (reached f.entry (key, n.value) (changed p at pins f.entry) (becomes p at pins f.entry) f.gives)
       by w (inr m) = far_member key w more far m
 
-  pub lookup_none : (key : List ℕ) → Becomes p at key key → lookup es key ≡ None → FarFrom key more → lookup (front ++ more) key ≡ None
+  pub lookup_none : (key : List ℕ) → Becomes p at key key → lookup es key ≡ None → FarFrom key more → lookup (prefix ++ more) key ≡ None
   lookup_none key b l far = nowhere key (λ e m r. (let is : e.0 ≡ key = one_key p at set e.0 key key r b in
       out_lookup es key e.1 apart l (subst (λ (k : List ℕ). Member (k, e.1) es) is m))) far
 
@@ -139,10 +139,10 @@ module _ (p : ProblemParts) (at : List ℕ) (set : IsSet p at) (pins : ℕ) (es 
           let b = begins_with_p p.tables set.are h r.1 in
           absurd (n b.0 (sym r.0 ∙ b.1))
 
-  pub stays : (key : List ℕ) → IsPlainKey key → FarFrom key more → ((v : List ℕ) → lookup es key ≡ Some v → DoesNotEndInCr v) → lookup es key ≡ lookup (front ++ more) key
+  pub stays : (key : List ℕ) → IsPlainKey key → FarFrom key more → ((v : List ℕ) → lookup es key ≡ Some v → DoesNotEndInCr v) → lookup es key ≡ lookup (prefix ++ more) key
   stays key k far ends = by (lookup es key) refl
     where
-      by : (o : Option (List ℕ)) → lookup es key ≡ o → lookup es key ≡ lookup (front ++ more) key
+      by : (o : Option (List ℕ)) → lookup es key ≡ o → lookup es key ≡ lookup (prefix ++ more) key
       by None e = e ∙ sym (lookup_none key (by_kept refl (fate_stays (pin_part key) k.part)) e far)
       by (Some v) e =
           let other = with_other p at pins (key, v) k.number k.count None k.variable in

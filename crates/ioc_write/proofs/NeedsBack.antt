@@ -61,8 +61,8 @@ given_of t (Some l) name q x e n f =
       can = can_by q (Some (l.number, x)) (λ z g. (let same : z ≡ x = cc in ap (λ (y : TableSignal). is_misplaced y q) same ∙ f));
     }
 
-module _ (p : ProblemParts) (at : List ℕ) (s : Suits p at) (pins k : ℕ) (keys : List Variable) (room : k + needs_in p.signals ≤ 2 ^ 64) (es front : List Entry) (apart : AreApart es)
-    (near : NearAll (flat_map (changed p at pins) es) front) (all : AreApart (front ++ appended_entries p at k keys)) (back : List Line) (after_is : map entry_on back ≡ front ++ appended_entries p at k keys)
+module _ (p : ProblemParts) (at : List ℕ) (s : Suits p at) (pins k : ℕ) (keys : List Variable) (room : k + needs_in p.signals ≤ 2 ^ 64) (es prefix : List Entry) (apart : AreApart es)
+    (near : NearAll (flat_map (changed p at pins) es) prefix) (all : AreApart (prefix ++ appended_entries p at k keys)) (back : List Line) (after_is : map entry_on back ≡ prefix ++ appended_entries p at k keys)
     (m : Move) (i : Member m (moves p.signals (uses_of p at))) (need : m.0.need ≡ true) where
   abbrev set : IsSet p at
   set = set_of p at s
@@ -111,12 +111,12 @@ module _ (p : ProblemParts) (at : List ℕ) (s : Suits p at) (pins k : ℕ) (key
   no_value : (x : List ℕ) → last_dot x ≡ None → x ≢ codes "Signal" → value_of (line_at back (new x)) ≡ None
   no_value x dotless other =
       line_value back (new x) ∙ ap (λ (l : List Entry). lookup l (new x)) after_is
-      ∙ nowhere p at set pins es front (appended_entries p at k keys) apart near all (new x) (not_reached x dotless) (far_need x dotless other)
+      ∙ nowhere p at set pins es prefix (appended_entries p at k keys) apart near all (new x) (not_reached x dotless) (far_need x dotless other)
 
   signal_value : value_of (line_at back (new (codes "Signal"))) ≡ Some m.0.name
   signal_value =
       line_value back (new (codes "Signal")) ∙ ap (λ (l : List Entry). lookup l (new (codes "Signal"))) after_is
-      ∙ lookup_added p at set pins es front (appended_entries p at k keys) apart near all (new (codes "Signal")) m.0.name
+      ∙ lookup_added p at set pins es prefix (appended_entries p at k keys) apart near all (new (codes "Signal")) m.0.name
       (member_left (new (codes "Signal"), m.0.name) (need_entries p.tables k p.signals (uses_of p at)) (clock_entries p at keys variables) (need_entry p.tables p.signals (uses_of p at) k m i need))
 
   differ : (a b : ℕ) (xs ys : List ℕ) → a ∷ xs ≡ b ∷ ys → a ≡ b

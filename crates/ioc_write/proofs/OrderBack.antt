@@ -116,8 +116,8 @@ module _ (p : ProblemParts) (at : List ℕ) (s : Suits p at) (pins : ℕ) where
   joined (x ∷ xs) (y ∷ ys) [] h n = absurd n
   joined (x ∷ xs) (y ∷ ys) (z ∷ zs) h n = ((h.0.0 ∙ n.0.0, subst (λ (v : List ℕ). Near v z.1) h.0.1 n.0.1), joined xs ys zs h.1 n.1)
 
-  along_pinned : (es front : List Entry) → NearAll (flat_map (changed p at pins) es) front → Along (Follows p at) (pinned es) (pinned front)
-  along_pinned es front near = joined (pinned es) (pinned (flat_map (changed p at pins) es)) (pinned front) (along_changed es) (along_near (flat_map (changed p at pins) es) front near)
+  along_pinned : (es prefix : List Entry) → NearAll (flat_map (changed p at pins) es) prefix → Along (Follows p at) (pinned es) (pinned prefix)
+  along_pinned es prefix near = joined (pinned es) (pinned (flat_map (changed p at pins) es)) (pinned prefix) (along_changed es) (along_near (flat_map (changed p at pins) es) prefix near)
 
 -- ---- the numbers
 
@@ -203,17 +203,17 @@ pinned_clocks p at keys (v ∷ vs) = elim (bool_cases (is_away p at v && not (ha
 
 -- ---- all of them, in order
 
-module _ (p : ProblemParts) (at : List ℕ) (s : Suits p at) (pins k : ℕ) (keys : List Variable) (room : k + needs_in p.signals ≤ 2 ^ 64) (es front : List Entry) (below : Each (IsBelow k) es)
-    (near : NearAll (flat_map (changed p at pins) es) front) where
+module _ (p : ProblemParts) (at : List ℕ) (s : Suits p at) (pins k : ℕ) (keys : List Variable) (room : k + needs_in p.signals ≤ 2 ^ 64) (es prefix : List Entry) (below : Each (IsBelow k) es)
+    (near : NearAll (flat_map (changed p at pins) es) prefix) where
   pub old_pins : Placed
   old_pins = inserted [] (pinned es)
 
   pub new_pins : Placed
-  new_pins = inserted [] (pinned front)
+  new_pins = inserted [] (pinned prefix)
 
   pub pins_follow : Along (Follows p at) old_pins new_pins
   unfolding old_pins new_pins
-  pins_follow = along_inserted (Follows p at) [] [] (pinned es) (pinned front) tt (along_pinned p at s pins es front near)
+  pins_follow = along_inserted (Follows p at) [] [] (pinned es) (pinned prefix) tt (along_pinned p at s pins es prefix near)
 
   pinned_more : pinned (appended_entries p at k keys) ≡ need_pins p.tables k p.signals (uses_of p at)
   pinned_more =
@@ -223,19 +223,19 @@ module _ (p : ProblemParts) (at : List ℕ) (s : Suits p at) (pins k : ℕ) (key
 
   all_below : AllBelow k new_pins
   unfolding new_pins
-  all_below = below_inserted k [] (pinned front) tt (below_along (Follows p at) k (pinned es) (pinned front) (along_pinned p at s pins es front near) (below_pinned k es below))
+  all_below = below_inserted k [] (pinned prefix) tt (below_along (Follows p at) k (pinned es) (pinned prefix) (along_pinned p at s pins es prefix near) (below_pinned k es below))
 
-  all_inserted : inserted [] (pinned (front ++ appended_entries p at k keys)) ≡ new_pins ++ need_pins p.tables k p.signals (uses_of p at)
+  all_inserted : inserted [] (pinned (prefix ++ appended_entries p at k keys)) ≡ new_pins ++ need_pins p.tables k p.signals (uses_of p at)
   unfolding new_pins
   all_inserted =
-      ap (inserted []) (pinned_append front (appended_entries p at k keys)) ∙ inserted_append [] (pinned front) (pinned (appended_entries p at k keys))
-      ∙ ap (inserted (inserted [] (pinned front))) pinned_more
-      ∙ inserted_behind (inserted [] (pinned front)) (need_pins p.tables k p.signals (uses_of p at)) k all_below (rise_needs p.tables k p.signals (uses_of p at))
+      ap (inserted []) (pinned_append prefix (appended_entries p at k keys)) ∙ inserted_append [] (pinned prefix) (pinned (appended_entries p at k keys))
+      ∙ ap (inserted (inserted [] (pinned prefix))) pinned_more
+      ∙ inserted_behind (inserted [] (pinned prefix)) (need_pins p.tables k p.signals (uses_of p at)) k all_below (rise_needs p.tables k p.signals (uses_of p at))
 
   abbrev values : Placed → List (List ℕ)
   values es = map (λ (e : ℕ × List ℕ). e.1) es
 
-  pub pins_written : pin_values (front ++ appended_entries p at k keys) ≡ values (new_pins ++ need_pins p.tables k p.signals (uses_of p at))
+  pub pins_written : pin_values (prefix ++ appended_entries p at k keys) ≡ values (new_pins ++ need_pins p.tables k p.signals (uses_of p at))
   pins_written = ap values all_inserted
 
   pub pins_read : pin_values es ≡ values old_pins

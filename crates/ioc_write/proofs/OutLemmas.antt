@@ -189,11 +189,11 @@ module _ (p : ProblemParts) (at : List ℕ) (s : Suits p at) (pins k : ℕ) (key
         (all_clocks p at keys (NotReached p at (set_of p at s) pins es) variables no_clock)
 
     -- no key stands twice
-    pub all_apart : (front : List Entry) → AreApart es → NearAll (flat_map (changed p at pins) es) front → AreApart (front ++ appended_entries p at k keys)
-    all_apart front apart near = apart_append front (appended_entries p at k keys)
-        (apart_near (flat_map (changed p at pins) es) front near (changed_apart p at (set_of p at s) pins es apart)) appended_apart
-        (each_where (λ (e : Entry). NotReached p at (set_of p at s) pins es e.0) (λ (e : Entry). FarFrom e.0 front) (appended_entries p at k keys)
-        (λ e h. far_near e.0 (flat_map (changed p at pins) es) front near (far_changed p at (set_of p at s) pins es e.0 h)) not_reached)
+    pub all_apart : (prefix : List Entry) → AreApart es → NearAll (flat_map (changed p at pins) es) prefix → AreApart (prefix ++ appended_entries p at k keys)
+    all_apart prefix apart near = apart_append prefix (appended_entries p at k keys)
+        (apart_near (flat_map (changed p at pins) es) prefix near (changed_apart p at (set_of p at s) pins es apart)) appended_apart
+        (each_where (λ (e : Entry). NotReached p at (set_of p at s) pins es e.0) (λ (e : Entry). FarFrom e.0 prefix) (appended_entries p at k keys)
+        (λ e h. far_near e.0 (flat_map (changed p at pins) es) prefix near (far_changed p at (set_of p at s) pins es e.0 h)) not_reached)
 
 -- ---- the whole text
 
@@ -201,8 +201,8 @@ empty_reads : Reads []
 unfolding line_of entry_of
 empty_reads = λ n. refl
 
-says_parted : (front : List TextLine) (tail : List ℕ) → map says_on (front ++ unended tail) ≡ map says_on front ++ if_any tail
-says_parted front tail = map-append says_on front (unended tail) ∙ ap (λ (x : List (List ℕ)). map says_on front ++ x) (last tail)
+says_parted : (prefix : List TextLine) (tail : List ℕ) → map says_on (prefix ++ unended tail) ≡ map says_on prefix ++ if_any tail
+says_parted prefix tail = map-append says_on prefix (unended tail) ∙ ap (λ (x : List (List ℕ)). map says_on prefix ++ x) (last tail)
   where
     last : (xs : List ℕ) → map says_on (unended xs) ≡ if_any xs
     last [] = refl
@@ -223,9 +223,9 @@ entries_both (l ∷ ls) ms = ap (λ (es : List Entry). entry_if (entry_of l) ++ 
 -- what a text says that is read
 pub record TextSays (text : List ℕ) (found : List Line) : Type 0 where
   pub parts : IsParted (text_lines text)
-  pub front : Each Reads (map says_on parts.front)
+  pub prefix : Each Reads (map says_on parts.prefix)
   pub tail : Reads parts.tail
-  pub is : entries (map says_on (text_lines text)) ≡ entries (map says_on parts.front) ++ entry_if (entry_of parts.tail)
+  pub is : entries (map says_on (text_lines text)) ≡ entries (map says_on parts.prefix) ++ entry_if (entry_of parts.tail)
   pub each : Each Reads (map says_on (text_lines text))
   pub found_is : found ≡ lines_from 1 (map says_on (text_lines text))
   pub apart : AreApart (entries (map says_on (text_lines text)))
@@ -234,15 +234,15 @@ pub text_says : (text : List ℕ) (found : List Line) → ioc_of text ≡ Ok fou
 unfolding ioc_of
 text_says text found e =
     let parts = text_parted text in
-    let said : map says_on (text_lines text) ≡ map says_on parts.front ++ if_any parts.tail = ap (map says_on) parts.is ∙ says_parted parts.front parts.tail in
+    let said : map says_on (text_lines text) ≡ map says_on parts.prefix ++ if_any parts.tail = ap (map says_on) parts.is ∙ says_parted parts.prefix parts.tail in
     let r = read_all (map says_on (text_lines text)) 1 [] found tt (ap (ioc_after [] 1) (they_say text) ∙ e) in
-    let each = each_split Reads (map says_on parts.front) (if_any parts.tail) (subst (Each Reads) said r.each) in
+    let each = each_split Reads (map says_on parts.prefix) (if_any parts.tail) (subst (Each Reads) said r.each) in
     let tail = reads_tail parts.tail each.1 in
     record {
       parts = parts;
-      front = each.0;
+      prefix = each.0;
       tail = tail;
-      is = ap entries said ∙ entries_both (map says_on parts.front) (if_any parts.tail) ∙ ap (λ (x : List Entry). entries (map says_on parts.front) ++ x) (tail_says parts.front parts.tail parts.ended parts.clean each.0 tail parts.tail tail).1;
+      is = ap entries said ∙ entries_both (map says_on parts.prefix) (if_any parts.tail) ∙ ap (λ (x : List Entry). entries (map says_on parts.prefix) ++ x) (tail_says parts.prefix parts.tail parts.ended parts.clean each.0 tail parts.tail tail).1;
       each = r.each;
       found_is = r.is;
       apart = subst AreApart (entries_on 1 (map says_on (text_lines text))) (entries_apart (lines_from 1 (map says_on (text_lines text))) (subst (Pairwise Differ) r.is r.apart));
@@ -251,11 +251,11 @@ text_says text found e =
 -- what the text that is written says
 pub record OutSays (text : List ℕ) (p : ProblemParts) (at out : List ℕ) : Type 0 where
   pub says : List (List ℕ)
-  pub front : List Entry
+  pub prefix : List Entry
   pub reads : ioc_of out ≡ Ok (lines_from 1 says)
-  pub near : NearAll (flat_map (changed p at (pins_written p (text_lines text))) (entries (map says_on (text_lines text)))) front
-  pub is : entries says ≡ front ++ appended_entries p at (next_number (pin_numbers (text_lines text))) (variables_on (text_lines text))
-  pub apart : AreApart (front ++ appended_entries p at (next_number (pin_numbers (text_lines text))) (variables_on (text_lines text)))
+  pub near : NearAll (flat_map (changed p at (pins_written p (text_lines text))) (entries (map says_on (text_lines text)))) prefix
+  pub is : entries says ≡ prefix ++ appended_entries p at (next_number (pin_numbers (text_lines text))) (variables_on (text_lines text))
+  pub apart : AreApart (prefix ++ appended_entries p at (next_number (pin_numbers (text_lines text))) (variables_on (text_lines text)))
   pub room : next_number (pin_numbers (text_lines text)) + needs_in p.signals ≤ 2 ^ 64
 
 module _ (text : List ℕ) (p : ProblemParts) (at : List ℕ) (s : Suits p at) (few : pins_written p (text_lines text) < 2 ^ 64) (found : List Line) (t : TextSays text found) (out : List ℕ) where
@@ -268,33 +268,33 @@ module _ (text : List ℕ) (p : ProblemParts) (at : List ℕ) (s : Suits p at) (
   abbrev pins : ℕ
   pins = pins_written p (text_lines text)
 
-  prefix_of : (front : List ℕ) → lines_written p at pins 1 (text_lines text) ≡ Ok front → IsWritten p at pins t.parts.front t.parts.tail front
-  prefix_of front e = written p at pins (set_of p at s) s.range few t.parts.front t.parts.tail 1 front t.parts.ended t.parts.clean t.front t.tail empty_reads
+  prefix_of : (prefix : List ℕ) → lines_written p at pins 1 (text_lines text) ≡ Ok prefix → IsWritten p at pins t.parts.prefix t.parts.tail prefix
+  prefix_of prefix e = written p at pins (set_of p at s) s.range few t.parts.prefix t.parts.tail 1 prefix t.parts.ended t.parts.clean t.prefix t.tail empty_reads
       (ap (lines_written p at pins 1) (sym t.parts.is) ∙ e)
 
-  closed_of : (front : List ℕ) → k + needs_in p.signals ≤ 2 ^ 64 → lines_written p at pins 1 (text_lines text) ≡ Ok front
-      → IsClosed (flat_map (changed p at pins) (entries (map says_on (text_lines text)))) (texts_of (appended_entries p at k keys)) (followed_by front (appended p at (text_lines text)))
+  closed_of : (prefix : List ℕ) → k + needs_in p.signals ≤ 2 ^ 64 → lines_written p at pins 1 (text_lines text) ≡ Ok prefix
+      → IsClosed (flat_map (changed p at pins) (entries (map says_on (text_lines text)))) (texts_of (appended_entries p at k keys)) (followed_by prefix (appended p at (text_lines text)))
   unfolding appended
-  closed_of front room e =
-      let w = prefix_of front e in
+  closed_of prefix room e =
+      let w = prefix_of prefix e in
       let added_is = appended_added p at s pins k keys room in
       let c = followed_says w.lines w.rest w.ended w.clean w.reads w.last (texts_of (appended_entries p at k keys)) (are_added (appended_entries p at k keys) (are_entries p at s pins k keys room)) in
-      subst (λ (x : List Entry). IsClosed x (texts_of (appended_entries p at k keys)) (followed_by front (appended p at (text_lines text)))) (w.is ∙ ap (flat_map (changed p at pins)) (sym t.is))
-      (subst (IsClosed (entries (map says_on w.lines) ++ entry_if (entry_of w.rest)) (texts_of (appended_entries p at k keys))) (ap (λ (x : List ℕ). followed_by x (added (texts_of (appended_entries p at k keys)))) (sym w.bytes) ∙ ap (followed_by front) (sym added_is)) c)
+      subst (λ (x : List Entry). IsClosed x (texts_of (appended_entries p at k keys)) (followed_by prefix (appended p at (text_lines text)))) (w.is ∙ ap (flat_map (changed p at pins)) (sym t.is))
+      (subst (IsClosed (entries (map says_on w.lines) ++ entry_if (entry_of w.rest)) (texts_of (appended_entries p at k keys))) (ap (λ (x : List ℕ). followed_by x (added (texts_of (appended_entries p at k keys)))) (sym w.bytes) ∙ ap (followed_by prefix) (sym added_is)) c)
 
   says_of : k + needs_in p.signals ≤ 2 ^ 64 → lines_back p at (text_lines text) ≡ Ok out → OutSays text p at out
   unfolding ioc_of
   says_of room e =
-      let b = both (lines_written p at (pins_written p (text_lines text)) 1 (text_lines text)) (λ front. Ok (followed_by front (appended p at (text_lines text)))) out e in
+      let b = both (lines_written p at (pins_written p (text_lines text)) 1 (text_lines text)) (λ prefix. Ok (followed_by prefix (appended p at (text_lines text)))) out e in
       let c = closed_of b.0 room b.1 in
       let same = same_ok (followed_by b.0 (appended p at (text_lines text))) out b.2 in
       let all = appended_entries p at (next_number (pin_numbers (text_lines text))) (variables_on (text_lines text)) in
-      let is : entries c.says ≡ c.front ++ all = c.is ∙ ap (λ (x : List Entry). c.front ++ x) (entries_of_texts all (are_entries p at s (pins_written p (text_lines text)) k keys room)) in
-      let apart = all_apart p at s (pins_written p (text_lines text)) k keys room (entries (map says_on (text_lines text))) (numbers_below (text_lines text)) (variables_had (text_lines text)) c.front t.apart c.near in
+      let is : entries c.says ≡ c.prefix ++ all = c.is ∙ ap (λ (x : List Entry). c.prefix ++ x) (entries_of_texts all (are_entries p at s (pins_written p (text_lines text)) k keys room)) in
+      let apart = all_apart p at s (pins_written p (text_lines text)) k keys room (entries (map says_on (text_lines text))) (numbers_below (text_lines text)) (variables_had (text_lines text)) c.prefix t.apart c.near in
       let differ = lines_apart (lines_from 1 c.says) (subst AreApart (sym (entries_on 1 c.says ∙ is)) apart) in
       record {
         says = c.says;
-        front = c.front;
+        prefix = c.prefix;
         reads = ap (ioc_after [] 1) (ap lines (sym same) ∙ c.lines_are) ∙ all_read c.says 1 [] c.reads differ;
         near = c.near;
         is = is;

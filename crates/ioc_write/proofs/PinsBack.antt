@@ -27,7 +27,7 @@ use Rattle.ioc_write.proofs.TextBack.{NearAll}
 some_same : (a b : ℕ) → Some a ≡ Some b → a ≡ b
 some_same a b e = cc
 
-module _ (p : ProblemParts) (at : List ℕ) (set : IsSet p at) (pins : ℕ) (es front more : List Entry) (apart : AreApart es) (near : NearAll (flat_map (changed p at pins) es) front) (all : AreApart (front ++ more))
+module _ (p : ProblemParts) (at : List ℕ) (set : IsSet p at) (pins : ℕ) (es prefix more : List Entry) (apart : AreApart es) (near : NearAll (flat_map (changed p at pins) es) prefix) (all : AreApart (prefix ++ more))
     (m : Move) (i : Member m (moves p.signals (uses_of p at))) (h : ℕ) (home : m.0.home ≡ Some h) (inside : h < length p.tables.pins) (within : m.1.pin < length p.tables.pins) (x : List ℕ) (dotless : last_dot x ≡ None) where
   abbrev old : List ℕ
   old = pin_name p.tables h ++ 46 ∷ x
@@ -64,8 +64,8 @@ module _ (p : ProblemParts) (at : List ℕ) (set : IsSet p at) (pins : ℕ) (es 
   ]
 
   -- a line of the pin goes along
-  pub pin_line_to : (y : List ℕ) → lookup es old ≡ Some y → DoesNotEndInCr y → lookup (front ++ more) new ≡ Some y
-  pin_line_to y e d = becomes_there p at set pins es front more apart near all old y new y (in_lookup es old y e) (becomes_new y) d
+  pub pin_line_to : (y : List ℕ) → lookup es old ≡ Some y → DoesNotEndInCr y → lookup (prefix ++ more) new ≡ Some y
+  pin_line_to y e d = becomes_there p at set pins es prefix more apart near all old y new y (in_lookup es old y e) (becomes_new y) d
 
   not_there : (e : Entry) → Member e es → lookup es old ≡ None → e.0 ≡ old → ⊥
   not_there e j n s = out_lookup es old e.1 apart n (subst (λ (k : List ℕ). Member (k, e.1) es) s j)
@@ -88,13 +88,13 @@ module _ (p : ProblemParts) (at : List ℕ) (set : IsSet p at) (pins : ℕ) (es 
       not_there e j n (k.dots.is ∙ ap (λ (a : List ℕ). a ++ 46 ∷ k.dots.rest) (sym k.moving.there ∙ ap (pin_name p.tables) is) ∙ ap (λ (a : List ℕ). pin_name p.tables h ++ 46 ∷ a) parts.1)
 
   -- and where the pin had none, there is none
-  pub pin_line_none : lookup es old ≡ None → FarFrom new more → lookup (front ++ more) new ≡ None
-  pin_line_none n far = nowhere p at set pins es front more apart near all new (from_none n) far
+  pub pin_line_none : lookup es old ≡ None → FarFrom new more → lookup (prefix ++ more) new ≡ None
+  pin_line_none n far = nowhere p at set pins es prefix more apart near all new (from_none n) far
 
   -- so the line is the same
-  pub pin_line_same : ((y : List ℕ) → lookup es old ≡ Some y → DoesNotEndInCr y) → FarFrom new more → lookup es old ≡ lookup (front ++ more) new
+  pub pin_line_same : ((y : List ℕ) → lookup es old ≡ Some y → DoesNotEndInCr y) → FarFrom new more → lookup es old ≡ lookup (prefix ++ more) new
   pin_line_same ends far = by (lookup es old) refl
     where
-      by : (o : Option (List ℕ)) → lookup es old ≡ o → lookup es old ≡ lookup (front ++ more) new
+      by : (o : Option (List ℕ)) → lookup es old ≡ o → lookup es old ≡ lookup (prefix ++ more) new
       by None e = e ∙ sym (pin_line_none e far)
       by (Some y) e = e ∙ sym (pin_line_to y e (ends y e))

@@ -148,14 +148,14 @@ need_skip t k [] needs us h l = refl
 need_skip t k (s ∷ ss) needs [] h l = absurd (omega (arith, l))
 need_skip t k (s ∷ ss) needs (u ∷ us) h l = rw h.0 (need_skip t k ss needs us h.1 (omega (arith, l)))
 
-each_front : {X : Type 0} (P : X → Type 0) (xs ys : List X) → Each P (xs ++ ys) → Each P xs
-each_front P [] ys h = tt
-each_front P (x ∷ xs) ys h = (h.0, each_front P xs ys h.1)
+each_prefix : {X : Type 0} (P : X → Type 0) (xs ys : List X) → Each P (xs ++ ys) → Each P xs
+each_prefix P [] ys h = tt
+each_prefix P (x ∷ xs) ys h = (h.0, each_prefix P xs ys h.1)
 
 -- ---- the whole
 
-module _ (p : ProblemParts) (at : List ℕ) (s : Suits p at) (valid : IsValid p.tables) (pins k : ℕ) (keys : List Variable) (room : k + needs_in p.signals ≤ 2 ^ 64) (es front : List Entry) (apart : AreApart es)
-    (near : NearAll (flat_map (changed p at pins) es) front) (all : AreApart (front ++ appended_entries p at k keys)) (ioc back : List Line) (before_is : map entry_on ioc ≡ es) (after_is : map entry_on back ≡ front ++ appended_entries p at k keys) (kept : Bool) where
+module _ (p : ProblemParts) (at : List ℕ) (s : Suits p at) (valid : IsValid p.tables) (pins k : ℕ) (keys : List Variable) (room : k + needs_in p.signals ≤ 2 ^ 64) (es prefix : List Entry) (apart : AreApart es)
+    (near : NearAll (flat_map (changed p at pins) es) prefix) (all : AreApart (prefix ++ appended_entries p at k keys)) (ioc back : List Line) (before_is : map entry_on ioc ≡ es) (after_is : map entry_on back ≡ prefix ++ appended_entries p at k keys) (kept : Bool) where
   -- a move of the choice
   abbrev IsMove : Move → Type 0
   IsMove m = Member m (moves p.signals (uses_of p at)) × Member m.1 (values_of p.tables m.0)
@@ -166,7 +166,7 @@ module _ (p : ProblemParts) (at : List ℕ) (s : Suits p at) (valid : IsValid p.
 
   virtual_stays : (v w : List ℕ) → is_virtual v ≡ true → Follows p at v w → is_virtual w ≡ true
   virtual_stays v w y f =
-      let stays : fate_named p at v ≡ fate.Kept = fate_stays p at (set_of p at s) pins es front (appended_entries p at k keys) apart near all v
+      let stays : fate_named p at v ≡ fate.Kept = fate_stays p at (set_of p at s) pins es prefix (appended_entries p at k keys) apart near all v
       (λ bs e. (let off : is_virtual v ≡ false = ap is_virtual e in absurd cc)) in
       virtual_near v w (subst (λ (x : Fate). Near (renamed p.tables v x) w) stays f) y
 
@@ -186,14 +186,14 @@ module _ (p : ProblemParts) (at : List ℕ) (s : Suits p at) (valid : IsValid p.
       let there : renamed p.tables v (fate_named p at v) ≡ pin_name p.tables m.1.pin = ap (renamed p.tables v) goes ∙ ap (λ (x : List ℕ). renamed p.tables x (cond (m.1.pin == h) fate.Kept (fate.Moved m.1.pin))) (sym n.0) ∙ renamed_is h m.1.pin in
       let inside = inside_moves (length p.tables.pins) p.signals (uses_of p at) m s.within is.0 in
       let same : pin_name p.tables m.1.pin ≡ w = near_value (pin_name p.tables m.1.pin) w (subst (λ (x : List ℕ). Near x w) there f) (print_ends (pin_name p.tables m.1.pin) (name_prints p at set m.1.pin inside)) in
-      let puts = puts_moved p at s valid pins k keys room es front apart near all ioc back before_is after_is m is.0 h st.at_home n.1 kept (subst (λ (x : List ℕ). Stands p.tables ioc kept x m.0) (sym n.0) st) is.1 in
+      let puts = puts_moved p at s valid pins k keys room es prefix apart near all ioc back before_is after_is m is.0 h st.at_home n.1 kept (subst (λ (x : List ℕ). Stands p.tables ioc kept x m.0) (sym n.0) st) is.1 in
       subst (λ (x : List ℕ). Puts p.tables back x m.1.pin m.0.name) same puts
 
   put_needs : (needs : List Signal) (us : List PinUse) (j : ℕ) → Each (IsNeed p.tables) needs → Each IsMove (moves needs us) → length us ≡ length needs → PutAll p.tables back (shown (need_pins p.tables j needs us)) (places needs us)
   put_needs [] us j h m l = tt
   put_needs (n ∷ ns) [] j h m l = absurd (omega (arith, l))
   put_needs (n ∷ ns) (u ∷ us) j h m l =
-      rw h.0.need (inr (puts_need p at s pins k keys room es front apart near all back after_is (n, u) m.0.0 h.0.need h.0.signal h.0.found m.0.1, put_needs ns us (j + 1) h.1 m.1 (omega (arith, l))))
+      rw h.0.need (inr (puts_need p at s pins k keys room es prefix apart near all back after_is (n, u) m.0.0 h.0.need h.0.signal h.0.found m.0.1, put_needs ns us (j + 1) h.1 m.1 (omega (arith, l))))
 
   put_all : (old new : Placed) (ss needs : List Signal) (us : List PinUse) (rest : List (List ℕ)) → Along (Follows p at) old new → StandAll p.tables ioc kept (shown old) ss → Each IsMove (moves (ss ++ needs) us) → length us ≡ length (ss ++ needs)
       → PutAll p.tables back rest (places needs (drop (length ss) us)) → PutAll p.tables back (shown new ++ rest) (places (ss ++ needs) us)
@@ -260,25 +260,25 @@ module _ (text : List ℕ) (opts : Opts) (p : ProblemParts) (at out : List ℕ) 
       let es = steps.es text opts p at out valid agree choice fit range few i wrote in
       let back = steps.back text opts p at out valid agree choice fit range few i wrote in
       let below = numbers_below (text_lines text) in
-      let follow = order.pins_follow p at s pins k keys o.room es o.front below o.near in
-      let old = order.old_pins p at s pins k keys o.room es o.front below o.near in
-      let new = order.new_pins p at s pins k keys o.room es o.front below o.near in
+      let follow = order.pins_follow p at s pins k keys o.room es o.prefix below o.near in
+      let old = order.old_pins p at s pins k keys o.room es o.prefix below o.near in
+      let new = order.new_pins p at s pins k keys o.room es o.prefix below o.near in
       let kept = was.kept || fixes_signals opts.free in
-      let read : map (λ (l : Line). l.value) (pin_lines i.lines) ≡ shown old = pins_shown i.lines ∙ ap entry.pin_values before ∙ order.pins_read p at s pins k keys o.room es o.front below o.near in
+      let read : map (λ (l : Line). l.value) (pin_lines i.lines) ≡ shown old = pins_shown i.lines ∙ ap entry.pin_values before ∙ order.pins_read p at s pins k keys o.room es o.prefix below o.near in
       let stand : StandAll p.tables i.lines kept (shown old) was.signals = subst (λ (vs : List (List ℕ)). StandAll p.tables i.lines kept vs was.signals) read was.stand in
       let all : p.signals ≡ was.signals ++ was.needs = signals_are ∙ was.all in
       let many = steps.many_uses p at agree choice in
       let long : length (uses_of p at) ≡ length (was.signals ++ was.needs) = many ∙ ap length all in
-      let each : Each (IsMove p at s valid pins k keys o.room es o.front t.apart o.near o.apart i.lines back before after kept) (moves p.signals (uses_of p at)) = moves_each (λ (m : Move). Member m.1 (values_of p.tables m.0)) (IsMove p at s valid pins k keys o.room es o.front t.apart o.near o.apart i.lines back before after kept) (moves p.signals (uses_of p at)) chosen (λ m j c. (j, c)) in
-      let each_all = subst (λ (ss : List Signal). Each (IsMove p at s valid pins k keys o.room es o.front t.apart o.near o.apart i.lines back before after kept) (moves ss (uses_of p at))) all each in
-      let tail = moves_drop was.signals was.needs (uses_of p at) (IsMove p at s valid pins k keys o.room es o.front t.apart o.near o.apart i.lines back before after kept) each_all long in
+      let each : Each (IsMove p at s valid pins k keys o.room es o.prefix t.apart o.near o.apart i.lines back before after kept) (moves p.signals (uses_of p at)) = moves_each (λ (m : Move). Member m.1 (values_of p.tables m.0)) (IsMove p at s valid pins k keys o.room es o.prefix t.apart o.near o.apart i.lines back before after kept) (moves p.signals (uses_of p at)) chosen (λ m j c. (j, c)) in
+      let each_all = subst (λ (ss : List Signal). Each (IsMove p at s valid pins k keys o.room es o.prefix t.apart o.near o.apart i.lines back before after kept) (moves ss (uses_of p at))) all each in
+      let tail = moves_drop was.signals was.needs (uses_of p at) (IsMove p at s valid pins k keys o.room es o.prefix t.apart o.near o.apart i.lines back before after kept) each_all long in
       let texts : Each NeedIs (was.signals ++ was.needs) = subst (Each NeedIs) all s.needs in
-      let false_all = stood_false p.tables i.lines kept (shown old) was.signals stand (each_front NeedIs was.signals was.needs texts) in
+      let false_all = stood_false p.tables i.lines kept (shown old) was.signals stand (each_prefix NeedIs was.signals was.needs texts) in
       let skip : need_pins p.tables k p.signals (uses_of p at) ≡ need_pins p.tables k was.needs (drop (length was.signals) (uses_of p at)) = ap (λ (ss : List Signal). need_pins p.tables k ss (uses_of p at)) all ∙ need_skip p.tables k was.signals was.needs (uses_of p at) false_all long in
-      let base = put_needs p at s valid pins k keys o.room es o.front t.apart o.near o.apart i.lines back before after kept was.needs (drop (length was.signals) (uses_of p at)) k (are_needs p.tables 1 opts.needs was.needs was.needed) tail.0 tail.1 in
-      let put = put_all p at s valid pins k keys o.room es o.front t.apart o.near o.apart i.lines back before after kept old new was.signals was.needs (uses_of p at) (shown (need_pins p.tables k was.needs (drop (length was.signals) (uses_of p at)))) follow stand each_all long base in
+      let base = put_needs p at s valid pins k keys o.room es o.prefix t.apart o.near o.apart i.lines back before after kept was.needs (drop (length was.signals) (uses_of p at)) k (are_needs p.tables 1 opts.needs was.needs was.needed) tail.0 tail.1 in
+      let put = put_all p at s valid pins k keys o.room es o.prefix t.apart o.near o.apart i.lines back before after kept old new was.signals was.needs (uses_of p at) (shown (need_pins p.tables k was.needs (drop (length was.signals) (uses_of p at)))) follow stand each_all long base in
       let written : map (λ (l : Line). l.value) (pin_lines back) ≡ shown new ++ shown (need_pins p.tables k was.needs (drop (length was.signals) (uses_of p at))) =
-      pins_shown back ∙ ap entry.pin_values after ∙ order.pins_written p at s pins k keys o.room es o.front below o.near ∙ map-append (λ (e : ℕ × List ℕ). e.1) new (need_pins p.tables k p.signals (uses_of p at)) ∙ ap (λ (x : Placed). shown new ++ shown x) skip in
+      pins_shown back ∙ ap entry.pin_values after ∙ order.pins_written p at s pins k keys o.room es o.prefix below o.near ∙ map-append (λ (e : ℕ × List ℕ). e.1) new (need_pins p.tables k p.signals (uses_of p at)) ∙ ap (λ (x : Placed). shown new ++ shown x) skip in
       subst (λ (ss : List Signal). PutAll p.tables back (map (λ (l : Line). l.value) (pin_lines back)) (places ss (uses_of p at))) (sym all)
       (subst (λ (vs : List (List ℕ)). PutAll p.tables back vs (places (was.signals ++ was.needs) (uses_of p at))) (sym written) put)
 

@@ -206,8 +206,8 @@ each_text : (n : ℕ) (ss : List TableSignal) → Each (IsSignal n) ss → Each 
 each_text n [] h = tt
 each_text n (s ∷ ss) h = (h.0.text, each_text n ss h.1)
 
-module _ (p : ProblemParts) (at : List ℕ) (s : Suits p at) (valid : IsValid p.tables) (pins k : ℕ) (keys : List Variable) (room : k + needs_in p.signals ≤ 2 ^ 64) (es front : List Entry) (apart : AreApart es)
-    (near : NearAll (flat_map (changed p at pins) es) front) (all : AreApart (front ++ appended_entries p at k keys)) (ioc back : List Line) (before_is : map entry_on ioc ≡ es) (after_is : map entry_on back ≡ front ++ appended_entries p at k keys) where
+module _ (p : ProblemParts) (at : List ℕ) (s : Suits p at) (valid : IsValid p.tables) (pins k : ℕ) (keys : List Variable) (room : k + needs_in p.signals ≤ 2 ^ 64) (es prefix : List Entry) (apart : AreApart es)
+    (near : NearAll (flat_map (changed p at pins) es) prefix) (all : AreApart (prefix ++ appended_entries p at k keys)) (ioc back : List Line) (before_is : map entry_on ioc ≡ es) (after_is : map entry_on back ≡ prefix ++ appended_entries p at k keys) where
   abbrev more : List Entry
   more = appended_entries p at k keys
 
@@ -263,7 +263,7 @@ module _ (p : ProblemParts) (at : List ℕ) (s : Suits p at) (valid : IsValid p.
       line_same : (x : List ℕ) → last_dot x ≡ None → ((y : List ℕ) → value_of (line_at ioc (old x)) ≡ Some y → DoesNotEndInCr y) → value_of (line_at ioc (old x)) ≡ value_of (line_at back (new x))
       line_same x dotless ends =
           line_value ioc (old x) ∙ ap (λ (l : List Entry). lookup l (old x)) before_is
-          ∙ pin_line_same p at (set_of p at s) pins es front (appended_entries p at k keys) apart near all m i h home there inside x dotless (λ y e. ends y (line_old x y e)) (far_moved x dotless)
+          ∙ pin_line_same p at (set_of p at s) pins es prefix (appended_entries p at k keys) apart near all m i h home there inside x dotless (λ y e. ends y (line_old x y e)) (far_moved x dotless)
           ∙ sym (line_value back (new x) ∙ ap (λ (l : List Entry). lookup l (new x)) after_is)
 
       -- the lines of its new pin put a signal there

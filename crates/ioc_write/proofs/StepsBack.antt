@@ -352,26 +352,26 @@ module _ (text : List ℕ) (opts : Opts) (p : ProblemParts) (at out : List ℕ) 
   pub before_is : map entry_on i.lines ≡ es
   before_is = ap (map entry_on) t.found_is ∙ entries_on 1 (map says_on (text_lines text))
 
-  pub after_is : map entry_on back ≡ o.front ++ more
+  pub after_is : map entry_on back ≡ o.prefix ++ more
   after_is = entries_on 1 o.says ∙ o.is
 
   plain_stays : (key : List ℕ) → IsPlainKey key → IsOther key → ((v : List ℕ) → lookup (map entry_on i.lines) key ≡ Some v → DoesNotEndInCr v) → lookup (map entry_on i.lines) key ≡ lookup (map entry_on back) key
   plain_stays key plain other ends =
       ap (λ (x : List Entry). lookup x key) before_is
-      ∙ stays p at (set_of p at s) pins es o.front more t.apart o.near o.apart key plain (far_other p at s k keys o.room key other)
+      ∙ stays p at (set_of p at s) pins es o.prefix more t.apart o.near o.apart key plain (far_other p at s k keys o.room key other)
       (λ v e. ends v (ap (λ (x : List Entry). lookup x key) before_is ∙ e))
       ∙ sym (ap (λ (x : List Entry). lookup x key) after_is)
 
   abbrev CountIs : Option (List ℕ) → Type 0
   CountIs r = (r ≡ None) ⊎ ((v : List ℕ) × (n : ℕ) × (r ≡ Some v) × (number_of v ≡ Some n))
 
-  count_by : (r : Option (List ℕ)) → lookup es (codes "Mcu.PinsNb") ≡ r → CountIs (lookup (o.front ++ more) (codes "Mcu.PinsNb"))
-  count_by None e = inl (lookup_none p at (set_of p at s) pins es o.front more t.apart o.near o.apart (codes "Mcu.PinsNb") (by_same refl (special_count (codes "Mcu.PinsNb") refl)) e
+  count_by : (r : Option (List ℕ)) → lookup es (codes "Mcu.PinsNb") ≡ r → CountIs (lookup (o.prefix ++ more) (codes "Mcu.PinsNb"))
+  count_by None e = inl (lookup_none p at (set_of p at s) pins es o.prefix more t.apart o.near o.apart (codes "Mcu.PinsNb") (by_same refl (special_count (codes "Mcu.PinsNb") refl)) e
       (far_other p at s k keys o.room (codes "Mcu.PinsNb") count_other))
   count_by (Some v) e = inr (
     decimal pins,
     pins,
-    lookup_to p at (set_of p at s) pins es o.front more t.apart o.near o.apart (codes "Mcu.PinsNb") v (decimal pins) e (with_count p at pins (codes "Mcu.PinsNb", v) count_number refl)
+    lookup_to p at (set_of p at s) pins es o.prefix more t.apart o.near o.apart (codes "Mcu.PinsNb") v (decimal pins) e (with_count p at pins (codes "Mcu.PinsNb", v) count_number refl)
         (print_ends (decimal pins) (decimal_value pins few).print),
     number_is (decimal pins) pins few refl,
   )
@@ -426,7 +426,7 @@ module _ (text : List ℕ) (opts : Opts) (p : ProblemParts) (at out : List ℕ) 
         → Means default (form_of v) (lookup (map entry_on back) (clock_key v)) (clock_value p.clock at (write.number_of v))
     its_home v default m =
         subst (λ (x : List Entry). Means default (form_of v) (lookup x (clock_key v)) (clock_value p.clock at (write.number_of v))) (sym after_is)
-        (clock_means p at (set_of p at s) pins es o.front more t.apart o.near o.apart range v default (home_value i.project.clock (write.number_of v)) (clock_value p.clock at (write.number_of v))
+        (clock_means p at (set_of p at s) pins es o.prefix more t.apart o.near o.apart range v default (home_value i.project.clock (write.number_of v)) (clock_value p.clock at (write.number_of v))
         (subst (λ (x : List Entry). Means default (form_of v) (lookup x (clock_key v)) (home_value i.project.clock (write.number_of v))) before_is m)
         (home_same v) (value_is p at src psrc v) (added_where v) (far_variable p at s k keys o.room v))
 

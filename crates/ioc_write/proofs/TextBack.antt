@@ -29,7 +29,7 @@ empty_entry = refl
 
 -- ---- line by line
 
-pub record IsWritten (p : ProblemParts) (at : List ℕ) (pins : ℕ) (front : List TextLine) (tail out : List ℕ) : Type 0 where
+pub record IsWritten (p : ProblemParts) (at : List ℕ) (pins : ℕ) (prefix : List TextLine) (tail out : List ℕ) : Type 0 where
   pub lines : List TextLine
   pub rest : List ℕ
   pub bytes : out ≡ flat_map whole lines ++ rest
@@ -37,7 +37,7 @@ pub record IsWritten (p : ProblemParts) (at : List ℕ) (pins : ℕ) (front : Li
   pub clean : IsClean rest
   pub reads : Each Reads (map says_on lines)
   pub last : Reads rest
-  pub is : entries (map says_on lines) ++ entry_if (entry_of rest) ≡ flat_map (changed p at pins) (entries (map says_on front) ++ entry_if (entry_of tail))
+  pub is : entries (map says_on lines) ++ entry_if (entry_of rest) ≡ flat_map (changed p at pins) (entries (map says_on prefix) ++ entry_if (entry_of tail))
 
 module _ (p : ProblemParts) (at : List ℕ) (pins : ℕ) (set : IsSet p at) (range : IsInRange (clock_at p.clock at)) (few : pins < 2 ^ 64) where
   abbrev out_of : List Entry → List Entry
@@ -54,8 +54,8 @@ module _ (p : ProblemParts) (at : List ℕ) (pins : ℕ) (set : IsSet p at) (ran
       let is : out ≡ s = sym (same_ok (w ++ []) out f) ∙ append-nil w ∙ e ∙ append-nil s in
       record { lines = []; rest = s; bytes = is; ended = tt; clean = h.clean; reads = tt; last = h.reads; is = h.is }
 
-  more_lines : (l : TextLine) (front : List TextLine) (tail w more out : List ℕ) → IsEnded l → LineSaid p at pins l w → IsWritten p at pins front tail more → out ≡ w ++ more → IsWritten p at pins (l ∷ front) tail out
-  more_lines l front tail w more out i (is_gone e h) r q = record {
+  more_lines : (l : TextLine) (prefix : List TextLine) (tail w more out : List ℕ) → IsEnded l → LineSaid p at pins l w → IsWritten p at pins prefix tail more → out ≡ w ++ more → IsWritten p at pins (l ∷ prefix) tail out
+  more_lines l prefix tail w more out i (is_gone e h) r q = record {
     lines = r.lines;
     rest = r.rest;
     bytes = q ∙ ap (λ (x : List ℕ). x ++ more) e ∙ r.bytes;
@@ -63,11 +63,11 @@ module _ (p : ProblemParts) (at : List ℕ) (pins : ℕ) (set : IsSet p at) (ran
     clean = r.clean;
     reads = r.reads;
     last = r.last;
-    is = r.is ∙ sym (ap out_of (append_assoc (entry_if (entry_of l.says)) (entries (map says_on front)) (entry_if (entry_of tail)))
-        ∙ flat_append (changed p at pins) (entry_if (entry_of l.says)) (entries (map says_on front) ++ entry_if (entry_of tail))
-        ∙ ap (λ (x : List Entry). x ++ out_of (entries (map says_on front) ++ entry_if (entry_of tail))) h);
+    is = r.is ∙ sym (ap out_of (append_assoc (entry_if (entry_of l.says)) (entries (map says_on prefix)) (entry_if (entry_of tail)))
+        ∙ flat_append (changed p at pins) (entry_if (entry_of l.says)) (entries (map says_on prefix) ++ entry_if (entry_of tail))
+        ∙ ap (λ (x : List Entry). x ++ out_of (entries (map says_on prefix) ++ entry_if (entry_of tail))) h);
   }
-  more_lines l front tail w more out i (is_anew s e h) r q = record {
+  more_lines l prefix tail w more out i (is_anew s e h) r q = record {
     lines = text_line s l.end ∷ r.lines;
     rest = r.rest;
     bytes = q ∙ ap (λ (x : List ℕ). x ++ more) e ∙ ap (λ (x : List ℕ). (s ++ l.end) ++ x) r.bytes ∙ sym (append_assoc (s ++ l.end) (flat_map whole r.lines) r.rest);
@@ -77,9 +77,9 @@ module _ (p : ProblemParts) (at : List ℕ) (pins : ℕ) (set : IsSet p at) (ran
     last = r.last;
     is = append_assoc (entry_if (entry_of s)) (entries (map says_on r.lines)) (entry_if (entry_of r.rest))
         ∙ ap (λ (x : List Entry). entry_if (entry_of s) ++ x) r.is
-        ∙ ap (λ (x : List Entry). x ++ out_of (entries (map says_on front) ++ entry_if (entry_of tail))) h.is
-        ∙ sym (ap out_of (append_assoc (entry_if (entry_of l.says)) (entries (map says_on front)) (entry_if (entry_of tail)))
-        ∙ flat_append (changed p at pins) (entry_if (entry_of l.says)) (entries (map says_on front) ++ entry_if (entry_of tail)));
+        ∙ ap (λ (x : List Entry). x ++ out_of (entries (map says_on prefix) ++ entry_if (entry_of tail))) h.is
+        ∙ sym (ap out_of (append_assoc (entry_if (entry_of l.says)) (entries (map says_on prefix)) (entry_if (entry_of tail)))
+        ∙ flat_append (changed p at pins) (entry_if (entry_of l.says)) (entries (map says_on prefix) ++ entry_if (entry_of tail)));
   }
     where
       ends : ((l.end ≡ 10 ∷ []) × ((last_of l.says == 13) ≡ false)) ⊎ (l.end ≡ 13 ∷ 10 ∷ []) → ((l.end ≡ 10 ∷ []) × ((last_of s == 13) ≡ false)) ⊎ (l.end ≡ 13 ∷ 10 ∷ [])
@@ -90,17 +90,17 @@ module _ (p : ProblemParts) (at : List ℕ) (pins : ℕ) (set : IsSet p at) (ran
   by_tail n [] out c r q e = record { lines = []; rest = []; bytes = sym (same_ok [] out e); ended = tt; clean = tt; reads = tt; last = q; is = ap entry_if empty_entry ∙ sym none_left }
   by_tail n (b ∷ bs) out c r q e =
       let l = text_line (b ∷ bs) [] in
-      let s = both (line_written p at pins n l) (λ front. Ok (front ++ [])) out e in
+      let s = both (line_written p at pins n l) (λ prefix. Ok (prefix ++ [])) out e in
       last_line (b ∷ bs) s.0 out (line_said p at pins set range few n l r c s.0 s.1) s.2 q
 
-  pub written : (front : List TextLine) (tail : List ℕ) (n : ℕ) (out : List ℕ) → Each IsEnded front → IsClean tail → Each Reads (map says_on front) → Reads tail → Reads []
-      → lines_written p at pins n (front ++ unended tail) ≡ Ok out → IsWritten p at pins front tail out
+  pub written : (prefix : List TextLine) (tail : List ℕ) (n : ℕ) (out : List ℕ) → Each IsEnded prefix → IsClean tail → Each Reads (map says_on prefix) → Reads tail → Reads []
+      → lines_written p at pins n (prefix ++ unended tail) ≡ Ok out → IsWritten p at pins prefix tail out
   written [] tail n out i c r t q e = by_tail n tail out c t q e
-  written (l ∷ front) tail n out i c r t q e =
-      let s = both (line_written p at pins n l) (λ w. lines_written p at pins (n + 1) (front ++ unended tail) >>= (λ more. Ok (w ++ more))) out e in
-      let m = both (lines_written p at pins (n + 1) (front ++ unended tail)) (λ more. Ok (s.0 ++ more)) out s.2 in
-      more_lines l front tail s.0 m.0 out i.0 (line_said p at pins set range few n l r.0 i.0.clean s.0 s.1)
-      (written front tail (n + 1) m.0 i.1 c r.1 t q m.1) (sym (same_ok (s.0 ++ m.0) out m.2))
+  written (l ∷ prefix) tail n out i c r t q e =
+      let s = both (line_written p at pins n l) (λ w. lines_written p at pins (n + 1) (prefix ++ unended tail) >>= (λ more. Ok (w ++ more))) out e in
+      let m = both (lines_written p at pins (n + 1) (prefix ++ unended tail)) (λ more. Ok (s.0 ++ more)) out s.2 in
+      more_lines l prefix tail s.0 m.0 out i.0 (line_said p at pins set range few n l r.0 i.0.clean s.0 s.1)
+      (written prefix tail (n + 1) m.0 i.1 c r.1 t q m.1) (sym (same_ok (s.0 ++ m.0) out m.2))
 
 -- ---- lines that are appended
 
@@ -121,10 +121,10 @@ added_some : (a : List ℕ) (als : List (List ℕ)) → (b : ℕ) × (bs : List 
 added_some [] als = (10, added als, refl)
 added_some (b ∷ bs) als = (b, (bs ++ 10 ∷ []) ++ added als, refl)
 
-followed : (front xs : List ℕ) (b : ℕ) (bs : List ℕ) → xs ≡ b ∷ bs → followed_by front xs ≡ cond (last_of front == 10) (front ++ xs) (front ++ 10 ∷ xs)
-followed front xs b bs e =
-    ap (followed_by front) e ∙ ap (λ (n : ℕ). cond (n == 10) (front ++ b ∷ bs) (front ++ 10 ∷ b ∷ bs)) (slice_last front)
-    ∙ ap (λ (x : List ℕ). cond (last_of front == 10) (front ++ x) (front ++ 10 ∷ x)) (sym e)
+followed : (prefix xs : List ℕ) (b : ℕ) (bs : List ℕ) → xs ≡ b ∷ bs → followed_by prefix xs ≡ cond (last_of prefix == 10) (prefix ++ xs) (prefix ++ 10 ∷ xs)
+followed prefix xs b bs e =
+    ap (followed_by prefix) e ∙ ap (λ (n : ℕ). cond (n == 10) (prefix ++ b ∷ bs) (prefix ++ 10 ∷ b ∷ bs)) (slice_last prefix)
+    ∙ ap (λ (x : List ℕ). cond (last_of prefix == 10) (prefix ++ x) (prefix ++ 10 ∷ x)) (sym e)
 
 -- each entry, or that with a CR behind its value
 abbrev pub NearAll : List Entry → List Entry → Type 0
@@ -153,9 +153,9 @@ pub record IsClosed (es : List Entry) (als : List (List ℕ)) (out : List ℕ) :
   pub says : List (List ℕ)
   pub lines_are : lines out ≡ says
   pub reads : Each Reads says
-  pub front : List Entry
-  pub near : NearAll es front
-  pub is : entries says ≡ front ++ entries als
+  pub prefix : List Entry
+  pub near : NearAll es prefix
+  pub is : entries says ≡ prefix ++ entries als
 
 reads_on : (als : List (List ℕ)) → Each IsAdded als → Each Reads als
 reads_on [] h = tt
@@ -177,7 +177,7 @@ module _ (ls : List TextLine) (rest : List ℕ) (ended : Each IsEnded ls) (clean
         says = map says_on ls ++ if_any rest;
         lines_are = ended_lines ls rest ended ∙ ap (λ (x : List (List ℕ)). map says_on ls ++ x) (line_last rest clean);
         reads = each_append Reads (map says_on ls) (if_any rest) reads t.0;
-        front = all;
+        prefix = all;
         near = near_same all;
         is = entries_append (map says_on ls) (if_any rest) ∙ ap (λ (x : List Entry). entries (map says_on ls) ++ x) t.1 ∙ sym (append-nil all);
       }
@@ -191,7 +191,7 @@ module _ (ls : List TextLine) (rest : List ℕ) (ended : Each IsEnded ls) (clean
           ap (λ (x : List ℕ). lines ((flat_map whole ls ++ x) ++ added als)) e ∙ ap (λ (x : List ℕ). lines (x ++ added als)) (append-nil (flat_map whole ls))
           ∙ ended_lines ls (added als) ended ∙ ap (λ (x : List (List ℕ)). map says_on ls ++ x) (added_lines als are);
       reads = each_append Reads (map says_on ls) als reads (reads_on als are);
-      front = entries (map says_on ls);
+      prefix = entries (map says_on ls);
       near = subst (λ (x : List Entry). NearAll x (entries (map says_on ls))) (sym (ap (λ (x : List ℕ). entries (map says_on ls) ++ entry_if (entry_of x)) e
           ∙ ap (λ (o : Option Entry). entries (map says_on ls) ++ entry_if o) empty_entry ∙ append-nil (entries (map says_on ls)))) (near_same (entries (map says_on ls)));
       is = entries_append (map says_on ls) als;
@@ -221,7 +221,7 @@ module _ (ls : List TextLine) (rest : List ℕ) (ended : Each IsEnded ls) (clean
               ap lines (append_assoc (flat_map whole ls) rest (10 ∷ added als)) ∙ ended_lines ls (rest ++ 10 ∷ added als) ended
               ∙ ap (λ (x : List (List ℕ)). map says_on ls ++ x) (line_then rest (added als) clean ∙ ap (λ (x : List (List ℕ)). s ∷ x) (added_lines als are));
           reads = each_append Reads (map says_on ls) (s ∷ als) reads (cut.0, reads_on als are);
-          front = entries (map says_on ls) ++ entry_if (entry_of s);
+          prefix = entries (map says_on ls) ++ entry_if (entry_of s);
           near = near_last (entries (map says_on ls)) (entry_of rest) (entry_of s) cut.1;
           is = entries_append (map says_on ls) (s ∷ als) ∙ sym (append_assoc (entries (map says_on ls)) (entry_if (entry_of s)) (entries als));
         }
@@ -235,5 +235,5 @@ module _ (ls : List TextLine) (rest : List ℕ) (ended : Each IsEnded ls) (clean
   followed_says [] h = alone
   followed_says (a ∷ als) h =
       let s = added_some a als in
-      let front = flat_map whole ls ++ rest in
-      subst (IsClosed all (a ∷ als)) (sym (followed front (added (a ∷ als)) s.0 s.1 s.2)) (by_end (a ∷ als) h (last_of front == 10) refl)
+      let prefix = flat_map whole ls ++ rest in
+      subst (IsClosed all (a ∷ als)) (sym (followed prefix (added (a ∷ als)) s.0 s.1 s.2)) (by_end (a ∷ als) h (last_of prefix == 10) refl)

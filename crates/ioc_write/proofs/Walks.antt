@@ -1,7 +1,7 @@
 -- Lines, one after another.
 use Rattle.std.proofs.Common.{◌≡◌, ℕ, zero, suc, ◌+◌, ◌<◌, ◌≤◌, List, [], ◌∷◌, ◌++◌, length, drop, max, true, false, Option, Some, None, Result, Ok, Err, get_or, refl, sym, ap, ◌∙◌, append_assoc, inl, inr, arith}
 use Rattle.res_base.proofs.SumLemmas.{bool_cases}
-use Rattle.res_model.specs.Steps.{◌>>=◌, with_front}
+use Rattle.res_model.specs.Steps.{◌>>=◌, with_prefix}
 use Rattle.res_model.specs.declared.project.Signal.{Signal}
 use Rattle.res_model.specs.declared.table.Mode.TheVariants.{Held}
 use Rattle.res_model.specs.declared.table.PinUse.{PinUse}
@@ -19,26 +19,26 @@ abbrev Bytes : Type 0
 Bytes = Result (List ℕ) BackFault
 
 abbrev pub both : Bytes → Bytes → Bytes
-both r more = r >>= λ front. more >>= λ rest. Ok (front ++ rest)
+both r more = r >>= λ prefix. more >>= λ rest. Ok (prefix ++ rest)
 
 ok_same : (a b : List ℕ) → (let r : Bytes = Ok a in r) ≡ Ok b → a ≡ b
 ok_same a b e = cc
 
 -- a line was written
-pub line_put : (out next : List ℕ) (r more : Bytes) → with_front out r ≡ Ok next → with_front next more ≡ with_front out (both r more)
+pub line_put : (out next : List ℕ) (r more : Bytes) → with_prefix out r ≡ Ok next → with_prefix next more ≡ with_prefix out (both r more)
 line_put out next (Err e) more h = absurd cc
-line_put out next (Ok front) (Err e) h = refl
-line_put out next (Ok front) (Ok rest) h = let same : out ++ front ≡ next = cc in rw (sym same) (ap Ok (append_assoc out front rest))
+line_put out next (Ok prefix) (Err e) h = refl
+line_put out next (Ok prefix) (Ok rest) h = let same : out ++ prefix ≡ next = cc in rw (sym same) (ap Ok (append_assoc out prefix rest))
 
-err_front : (out : List ℕ) (r : Bytes) (e : BackFault) → with_front out r ≡ Err e → r ≡ Err e
-err_front out (Ok front) e h = absurd cc
-err_front out (Err f) e h = h
+err_prefix : (out : List ℕ) (r : Bytes) (e : BackFault) → with_prefix out r ≡ Err e → r ≡ Err e
+err_prefix out (Ok prefix) e h = absurd cc
+err_prefix out (Err f) e h = h
 
-err_both : (out : List ℕ) (r more : Bytes) (e : BackFault) → with_front out r ≡ Err e → with_front out (both r more) ≡ Err e
-err_both out r more e h = rw (err_front out r e h) refl
+err_both : (out : List ℕ) (r more : Bytes) (e : BackFault) → with_prefix out r ≡ Err e → with_prefix out (both r more) ≡ Err e
+err_both out r more e h = rw (err_prefix out r e h) refl
 
 -- a line was refused
-pub line_refused : (e : Refusal BackFault) (out : List ℕ) (r more : Bytes) → Refuses e (with_front out r) → Refuses e (with_front out (both r more))
+pub line_refused : (e : Refusal BackFault) (out : List ℕ) (r more : Bytes) → Refuses e (with_prefix out r) → Refuses e (with_prefix out (both r more))
 line_refused (Fault fault) out r more h = err_both out r more fault h
 line_refused OutOfMemory out r more h = tt
 

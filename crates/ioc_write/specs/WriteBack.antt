@@ -209,9 +209,9 @@ line_written p at pins n l = line_written_by p at pins n l (keyed l.says)
 abbrev pub lines_written : ProblemParts → List ℕ → ℕ → ℕ → List TextLine → Result (List ℕ) BackFault
 lines_written p at pins n [] = Ok []
 lines_written p at pins n (l ∷ ls) = do
-  front ← line_written p at pins n l
+  prefix ← line_written p at pins n l
   more ← lines_written p at pins (n + 1) ls
-  Ok (front ++ more)
+  Ok (prefix ++ more)
 
 -- ---- what stands behind the lines
 
@@ -278,8 +278,8 @@ ends_with_newline bytes = slice_index bytes (length bytes - 1) == 10
 
 -- what is appended begins a line of its own
 abbrev pub followed_by : List ℕ → List ℕ → List ℕ
-followed_by front [] = front
-followed_by front (b ∷ bs) = if ends_with_newline front then front ++ b ∷ bs else front ++ 10 ∷ b ∷ bs
+followed_by prefix [] = prefix
+followed_by prefix (b ∷ bs) = if ends_with_newline prefix then prefix ++ b ∷ bs else prefix ++ 10 ∷ b ∷ bs
 
 -- the output has so many keys Mcu.Pin<k>
 abbrev pub pins_written : ProblemParts → List TextLine → ℕ
@@ -287,8 +287,8 @@ pins_written p ls = length (pin_numbers ls) + needs_of p.signals
 
 abbrev pub lines_back : ProblemParts → List ℕ → List TextLine → Result (List ℕ) BackFault
 lines_back p at ls = do
-  front ← lines_written p at (pins_written p ls) 1 ls
-  Ok (followed_by front (appended p at ls))
+  prefix ← lines_written p at (pins_written p ls) 1 ls
+  Ok (followed_by prefix (appended p at ls))
 
 -- the text with the choice as its homes. The needs are numbered up to 2^64 - 1
 unfoldable pub written_back : List ℕ → ProblemParts → List ℕ → Result (List ℕ) BackFault

@@ -1,6 +1,6 @@
 //! The lines of a text, each as a plan leaves it.
 ghost use Rattle.std.specs.Prelude.{◌≡◌, ◌<◌, ◌+◌, ◌++◌, ◌^◌, length, take, Ok, OnOk};
-ghost use Rattle.res_model.specs.Steps.{with_front};
+ghost use Rattle.res_model.specs.Steps.{with_prefix};
 ghost use Rattle.refusal.specs.Refusals.{Gives};
 ghost use Rattle.ioc_lines.specs.Lines.{escaped, last_dot, rest_from, text_line, text_lines, with_pin, with_value};
 ghost use Rattle.ioc_write.specs.Plans.{IsPlan};
@@ -88,7 +88,7 @@ fn put_said(
 
 /// A line that stays.
 fn put_kept(out: &mut Vec<u8>, says: &[u8], end: &[u8]) -> Result<(), Refusal<BackFault>>
-    ensures { Gives (λ _. out.new.items) result (with_front out.old.items (Ok (says.now ++ end.now))) }
+    ensures { Gives (λ _. out.new.items) result (with_prefix out.old.items (Ok (says.now ++ end.now))) }
 {
     out.extend_from_slice(says)?;
     out.extend_from_slice(end)?;
@@ -102,7 +102,7 @@ fn put_limited(
     says: &[u8],
     end: &[u8],
 ) -> Result<(), Refusal<BackFault>>
-    ensures { Gives (λ _. out.new.items) result (with_front out.old.items (limited number says.now end.now)) }
+    ensures { Gives (λ _. out.new.items) result (with_prefix out.old.items (limited number says.now end.now)) }
 {
     if says.len() > MOST {
         return Err(Refusal::Fault(BackFault::LongLine { line: number }));
@@ -119,7 +119,7 @@ fn put_written(
     says: &[u8],
     end: &[u8],
 ) -> Result<(), Refusal<BackFault>>
-    ensures { Gives (λ _. out.new.items) result (with_front out.old.items (written number (text_line says.now end.now) change said.now)) }
+    ensures { Gives (λ _. out.new.items) result (with_prefix out.old.items (written number (text_line says.now end.now) change said.now)) }
 {
     match change {
         Change::Kept => put_kept(out, says, end),
@@ -142,7 +142,7 @@ fn put_line(
     end: &[u8],
 ) -> Result<(), Refusal<BackFault>>
     requires { IsPlan plan.now }
-    ensures { Gives (λ _. out.new.items) result (with_front out.old.items (line_written plan.now.problem.now plan.now.at.now plan.now.pins number (text_line says.now end.now))) }
+    ensures { Gives (λ _. out.new.items) result (with_prefix out.old.items (line_written plan.now.problem.now plan.now.at.now plan.now.pins number (text_line says.now end.now))) }
 {
     let Some(equals) = key_into(scratch, says)? else {
         return put_kept(out, says, end);
@@ -162,7 +162,7 @@ pub(crate) fn put_lines(
 ) -> Result<(), Refusal<BackFault>>
     requires plan { IsPlan plan.now }
     requires few { length text.now < 2 ^ 32 }
-    ensures { Gives (λ _. out.new.items) result (with_front out.old.items (lines_written plan.now.problem.now plan.now.at.now plan.now.pins 1 (text_lines text.now))) }
+    ensures { Gives (λ _. out.new.items) result (with_prefix out.old.items (lines_written plan.now.problem.now plan.now.at.now plan.now.pins 1 (text_lines text.now))) }
 {
     let mut scratch = Vec::new(alloc);
     let mut rest = text;

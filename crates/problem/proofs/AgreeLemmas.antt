@@ -64,17 +64,17 @@ both_each : (P : VarShape → Type 0) (xs ys : List VarShape) → Each P xs → 
 both_each P [] ys h k = k
 both_each P (x ∷ xs) ys h k = (h.0, both_each P xs ys h.1 k)
 
-take_front : (xs ys : List VarShape) (n : ℕ) → n ≡ length xs → take n (xs ++ ys) ≡ xs
-take_front [] ys zero e = refl
-take_front [] ys (suc n) e = absurd (omega (arith, e))
-take_front (x ∷ xs) ys zero e = absurd (omega (arith, e))
-take_front (x ∷ xs) ys (suc n) e = ap (λ (l : List VarShape). x ∷ l) (take_front xs ys n (omega (arith, e)))
+take_prefix : (xs ys : List VarShape) (n : ℕ) → n ≡ length xs → take n (xs ++ ys) ≡ xs
+take_prefix [] ys zero e = refl
+take_prefix [] ys (suc n) e = absurd (omega (arith, e))
+take_prefix (x ∷ xs) ys zero e = absurd (omega (arith, e))
+take_prefix (x ∷ xs) ys (suc n) e = ap (λ (l : List VarShape). x ∷ l) (take_prefix xs ys n (omega (arith, e)))
 
-drop_front : (xs ys : List VarShape) (n : ℕ) → n ≡ length xs → drop n (xs ++ ys) ≡ ys
-drop_front [] ys zero e = refl
-drop_front [] ys (suc n) e = absurd (omega (arith, e))
-drop_front (x ∷ xs) ys zero e = absurd (omega (arith, e))
-drop_front (x ∷ xs) ys (suc n) e = drop_front xs ys n (omega (arith, e))
+drop_prefix : (xs ys : List VarShape) (n : ℕ) → n ≡ length xs → drop n (xs ++ ys) ≡ ys
+drop_prefix [] ys zero e = refl
+drop_prefix [] ys (suc n) e = absurd (omega (arith, e))
+drop_prefix (x ∷ xs) ys zero e = absurd (omega (arith, e))
+drop_prefix (x ∷ xs) ys (suc n) e = drop_prefix xs ys n (omega (arith, e))
 
 -- the clocks of a part: their values, where there are any, are ten lists within the widest
 record Clocks (t : TableParts) (p : Project) (opts : Opts) (part : Part) : Type 0 where
@@ -241,8 +241,8 @@ module _ (t : TableParts) (p : Project) (opts : Opts) (part : Part) (valid : IsV
   agree narrow hertz = record {
     is_shape = record { few = shape_few; positions = shape_positions; small = shape_small; narrow = narrow };
     first = clocks.values;
-    clock_sizes = subst (λ vs. HaveValues vs (clock_of t p opts part)) (sym (take_front (clock_shape t p opts part) (pin_variables t p.signals) (first_of part) clocks.first)) clocks.have;
-    use_sizes = subst (λ vs. HaveValues vs (pin_values t p.signals)) (sym (drop_front (clock_shape t p opts part) (pin_variables t p.signals) (first_of part) clocks.first)) (pins_have t p.signals);
+    clock_sizes = subst (λ vs. HaveValues vs (clock_of t p opts part)) (sym (take_prefix (clock_shape t p opts part) (pin_variables t p.signals) (first_of part) clocks.first)) clocks.have;
+    use_sizes = subst (λ vs. HaveValues vs (pin_values t p.signals)) (sym (drop_prefix (clock_shape t p opts part) (pin_variables t p.signals) (first_of part) clocks.first)) (pins_have t p.signals);
     signals = sym (length_values t p.signals);
     few = few;
     pins = all_pinned t p.signals valid placed;

@@ -32,24 +32,24 @@ inside (v ∷ vs) (x ∷ xs) (a ∷ bs) h c zero l = omega (arith, h.0, c.0)
 inside (v ∷ vs) (x ∷ xs) (a ∷ bs) h c (suc k) l = inside vs xs bs h.1 c.1 k (omega (arith, l))
 
 -- the same of values of the first variables
-inside_front : (n : ℕ) (vs : List VarShape) (vss : List (List ℕ)) (at : List ℕ) → HaveValues (take n vs) vss → IsChoice vs at → (k : ℕ) → k < length vss → get_or at k 0 < length (get_or vss k [])
-inside_front zero vs [] at h c k l = absurd (omega (arith, l))
-inside_front zero vs (x ∷ xs) at h c k l = absurd h
-inside_front (suc n) [] [] at h c k l = absurd (omega (arith, l))
-inside_front (suc n) [] (x ∷ xs) at h c k l = absurd h
-inside_front (suc n) (v ∷ vs) [] at h c k l = absurd h
-inside_front (suc n) (v ∷ vs) (x ∷ xs) [] h c k l = absurd c
-inside_front (suc n) (v ∷ vs) (x ∷ xs) (a ∷ bs) h c zero l = omega (arith, h.0, c.0)
-inside_front (suc n) (v ∷ vs) (x ∷ xs) (a ∷ bs) h c (suc k) l = inside_front n vs xs bs h.1 c.1 k (omega (arith, l))
+inside_prefix : (n : ℕ) (vs : List VarShape) (vss : List (List ℕ)) (at : List ℕ) → HaveValues (take n vs) vss → IsChoice vs at → (k : ℕ) → k < length vss → get_or at k 0 < length (get_or vss k [])
+inside_prefix zero vs [] at h c k l = absurd (omega (arith, l))
+inside_prefix zero vs (x ∷ xs) at h c k l = absurd h
+inside_prefix (suc n) [] [] at h c k l = absurd (omega (arith, l))
+inside_prefix (suc n) [] (x ∷ xs) at h c k l = absurd h
+inside_prefix (suc n) (v ∷ vs) [] at h c k l = absurd h
+inside_prefix (suc n) (v ∷ vs) (x ∷ xs) [] h c k l = absurd c
+inside_prefix (suc n) (v ∷ vs) (x ∷ xs) (a ∷ bs) h c zero l = omega (arith, h.0, c.0)
+inside_prefix (suc n) (v ∷ vs) (x ∷ xs) (a ∷ bs) h c (suc k) l = inside_prefix n vs xs bs h.1 c.1 k (omega (arith, l))
 
-front_long : (n : ℕ) (vs : List VarShape) (vss : List (List ℕ)) (at : List ℕ) → HaveValues (take n vs) vss → IsChoice vs at → length vss ≤ length at
-front_long zero vs [] at h c = omega arith
-front_long zero vs (x ∷ xs) at h c = absurd h
-front_long (suc n) [] [] at h c = omega arith
-front_long (suc n) [] (x ∷ xs) at h c = absurd h
-front_long (suc n) (v ∷ vs) [] at h c = absurd h
-front_long (suc n) (v ∷ vs) (x ∷ xs) [] h c = absurd c
-front_long (suc n) (v ∷ vs) (x ∷ xs) (a ∷ bs) h c = omega (arith, front_long n vs xs bs h.1 c.1)
+prefix_long : (n : ℕ) (vs : List VarShape) (vss : List (List ℕ)) (at : List ℕ) → HaveValues (take n vs) vss → IsChoice vs at → length vss ≤ length at
+prefix_long zero vs [] at h c = omega arith
+prefix_long zero vs (x ∷ xs) at h c = absurd h
+prefix_long (suc n) [] [] at h c = omega arith
+prefix_long (suc n) [] (x ∷ xs) at h c = absurd h
+prefix_long (suc n) (v ∷ vs) [] at h c = absurd h
+prefix_long (suc n) (v ∷ vs) (x ∷ xs) [] h c = absurd c
+prefix_long (suc n) (v ∷ vs) (x ∷ xs) (a ∷ bs) h c = omega (arith, prefix_long n vs xs bs h.1 c.1)
 
 as_many : {X : Type 0} (vs : List VarShape) (vss : List (List X)) → HaveValues vs vss → length vs ≡ length vss
 as_many [] [] h = refl
@@ -81,11 +81,11 @@ module _ (p : ProblemParts) (agree : IsProblem p) (whole : p.first ≢ 0) (at : 
   clock_ten = (agree.clock whole).ten
 
   pub clock_placed : 10 ≤ length at
-  clock_placed = omega (arith, clock_ten, front_long p.first p.shape p.clock at agree.clock_sizes choice)
+  clock_placed = omega (arith, clock_ten, prefix_long p.first p.shape p.clock at agree.clock_sizes choice)
 
   -- each clock variable has a value at its position
   pub clock_inside : (k : ℕ) → k < 10 → slice_index at k < length (values_at p.clock k)
-  clock_inside k l = inside_front p.first p.shape p.clock at agree.clock_sizes choice k (omega (arith, clock_ten, l))
+  clock_inside k l = inside_prefix p.first p.shape p.clock at agree.clock_sizes choice k (omega (arith, clock_ten, l))
 
   value_in : (low high k : ℕ) → k < 10 → Each (IsBetween low high) (values_at p.clock k) → IsBetween low high (clock_value p.clock at k)
   value_in low high k l h = each_at (IsBetween low high) (values_at p.clock k) (slice_index at k) h (clock_inside k l)
@@ -147,7 +147,7 @@ uses_next (vs ∷ vss) [] k u l m e = absurd (omega (arith, m))
 uses_next (vs ∷ vss) (a ∷ bs) zero u l m e = ap (λ (o : Option PinUse). option_to_list o ++ uses_at vss bs) e
 uses_next (vs ∷ vss) (a ∷ bs) (suc k) u l m e = uses_next vss bs k u (omega (arith, l)) (omega (arith, m)) e
 
--- the uses that a choice makes, filled in from the front
+-- the uses that a choice makes, filled in from the first
 module _ (p : ProblemParts) (agree : IsProblem p) (at : List ℕ) (choice : IsChoice p.shape at) where
   abbrev rest_from : ℕ → List PinUse
   rest_from k = uses_at (drop k p.uses) (drop k (places_of p at))

@@ -125,7 +125,7 @@ impl Problem {
         fits(&uses[..parts.signals.len()], &parts.tables)
     }
 
-    /// The uses that a choice makes, from the front on.
+    /// The uses that a choice makes, from the first on.
     fn uses_at(&self, at: &[u16]) -> [PinUse; SIGNALS]
         requires { IsChoice self.now.shape at.now }
         ensures { take (length self.now.signals) result ≡ uses_at self.now.uses (places_of self.now at.now) }

@@ -13,7 +13,7 @@ use Rattle.refutation.specs.declared.node.ProofFault.{ProofFault}
 use Rattle.refutation.specs.declared.node.ProofFault.TheVariants as fault
 use Rattle.refutation.specs.Forms.{Form, SplitForm, HallForm, LimitForm, RankForm, WitnessForm, due_after, takes_up, IsAscending, FitsForm, FitsBound}
 use Rattle.refutation.specs.Spelling.{spaced, form_text, bound_text, lines_text, forms_text, spelling}
-use Rattle.refutation.specs.Reading.{onto_line, lines_of, line_after, fields, number_below, number_from, variables_from, split_form, hall_form, limit_form, form_of_text, bound_of_text, with_front, with_bound, forms_from, bound_from, proof_from, proof_of, IsPassedOver}
+use Rattle.refutation.specs.Reading.{onto_line, lines_of, line_after, fields, number_below, number_from, variables_from, split_form, hall_form, limit_form, form_of_text, bound_of_text, with_prefix, with_bound, forms_from, bound_from, proof_from, proof_of, IsPassedOver}
 use Rattle.refutation.proofs.FormLemmas.{append_nil}
 use Rattle.refutation.proofs.NumberLemmas.{number_is}
 
@@ -145,8 +145,8 @@ forms_read (f ∷ fs) number (suc due) h t =
     let left = (both_true (ltb 0 (suc due)) (takes_up (due_after (suc due) f) fs) t).1 in
     ap (λ xs. forms_from number (suc due) (lines_of xs)) (append_assoc (form_text f) (10 ∷ forms_text fs) last_text)
     ∙ ap (forms_from number (suc due)) (line_then (form_text f) rest (form_clean f h.0))
-    ∙ ap (λ (o : Option Form). option_map_or (λ f. with_front (f ∷ []) (forms_from (line_after number) (due_after (suc due) f) (lines_of rest))) o (Err (fault.Line number))) (form_read f h.0)
-    ∙ ap (with_front (f ∷ [])) (forms_read fs (line_after number) (due_after (suc due) f) h.1 left)
+    ∙ ap (λ (o : Option Form). option_map_or (λ f. with_prefix (f ∷ []) (forms_from (line_after number) (due_after (suc due) f) (lines_of rest))) o (Err (fault.Line number))) (form_read f h.0)
+    ∙ ap (with_prefix (f ∷ [])) (forms_read fs (line_after number) (due_after (suc due) f) h.1 left)
 
 -- ---- the bound
 bound_read : (bound : Option ℕ) → FitsBound bound → bound_of_text (bound_text bound) ≡ Some bound

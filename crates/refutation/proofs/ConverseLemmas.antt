@@ -15,7 +15,7 @@ use Rattle.refutation.specs.declared.node.ProofFault.{ProofFault}
 use Rattle.refutation.specs.declared.node.ProofFault.TheVariants as fault
 use Rattle.refutation.specs.Forms.{Form, SplitForm, HallForm, LimitForm, RankForm, WitnessForm, due_after, takes_up, IsAscending, FitsForm, FitsBound}
 use Rattle.refutation.specs.Spelling.{spaced, class_text, form_text, bound_text, lines_text, forms_text, spelling, Spells}
-use Rattle.refutation.specs.Reading.{Line, onto_line, lines_of, line_after, is_space, fields, number_of, number_below, number_from, variables_from, split_form, hall_form, limit_form, form_of_text, bound_of_text, ended_as, is_text, with_front, with_bound, forms_from, bound_from, proof_from, proof_of}
+use Rattle.refutation.specs.Reading.{Line, onto_line, lines_of, line_after, is_space, fields, number_of, number_below, number_from, variables_from, split_form, hall_form, limit_form, form_of_text, bound_of_text, ended_as, is_text, with_prefix, with_bound, forms_from, bound_from, proof_from, proof_of}
 use Rattle.refutation.proofs.CutLemmas.{some_field}
 use Rattle.refutation.proofs.FormLemmas.{append_nil}
 
@@ -335,9 +335,9 @@ pub record SpellsForms (text : List ℕ) (due : ℕ) (forms : List Form) : Type 
   fit : Each FitsForm forms
   whole : takes_up due forms ≡ true
 
-front_back : (front : List Form) (read : Result (List Form) ProofFault) (forms : List Form) → with_front front read ≡ Ok forms → (rest : List Form) × (read ≡ Ok rest) × (front ++ rest ≡ forms)
-front_back front (Err e) forms h = absurd (no_ok e forms h)
-front_back front (Ok rest) forms h = let z : ◌≡◌ {A = Result (List Form) ProofFault} (Ok (front ++ rest)) (Ok forms) = h in (rest, refl, cc)
+prefix_back : (prefix : List Form) (read : Result (List Form) ProofFault) (forms : List Form) → with_prefix prefix read ≡ Ok forms → (rest : List Form) × (read ≡ Ok rest) × (prefix ++ rest ≡ forms)
+prefix_back prefix (Err e) forms h = absurd (no_ok e forms h)
+prefix_back prefix (Ok rest) forms h = let z : ◌≡◌ {A = Result (List Form) ProofFault} (Ok (prefix ++ rest)) (Ok forms) = h in (rest, refl, cc)
 
 end_back : (text : List ℕ) (l : Line) (b : Bool) → lines_of text ≡ l ∷ [] → (l.ended && is_text (codes "end") l) ≡ true → text ≡ last_text
 unfolding last_text
@@ -360,11 +360,11 @@ forms_back (l ∷ m ∷ ls) text number zero forms is e = elim (bool_cases (l.en
   | inr t ↦ absurd (no_ok (fault.Line number) forms (rw t at e))
 ]
 forms_back (l ∷ ls) text number (suc due) forms is e =
-    let a = ok_or (λ f. with_front (f ∷ []) (forms_from (line_after number) (due_after (suc due) f) ls)) (ended_as form_of_text l) (fault.Line number) forms e in
+    let a = ok_or (λ f. with_prefix (f ∷ []) (forms_from (line_after number) (due_after (suc due) f) ls)) (ended_as form_of_text l) (fault.Line number) forms e in
     let f = a.0 in
     let line = ended_back form_of_text l f a.1 in
     let node = form_back l.text f line.1 in
-    let b = front_back (f ∷ []) (forms_from (line_after number) (due_after (suc due) f) ls) forms a.2 in
+    let b = prefix_back (f ∷ []) (forms_from (line_after number) (due_after (suc due) f) ls) forms a.2 in
     let r = first_line text l ls is line.0 in
     let rest = forms_back ls r.rest (line_after number) (due_after (suc due) f) b.0 r.rest_is b.1 in
     let some : ltb 0 (suc due) ≡ true = grind (arith, nat_tests) in

@@ -48,10 +48,10 @@ spaced_push (w ∷ vs) v = ap (λ xs. 32 ∷ (decimal w ++ xs)) (spaced_push vs 
 pub forms_push : (ns : List Node) (n : Node) → forms_text (map form_of (ns ++ n ∷ [])) ≡ forms_text (map form_of ns) ++ form_text (form_of n) ++ 10 ∷ []
 forms_push [] n = refl
 forms_push (m ∷ ns) n =
-    let front = form_text (form_of m) in
+    let prefix = form_text (form_of m) in
     let rest = forms_text (map form_of ns) in
-    ap (λ xs. front ++ 10 ∷ xs) (forms_push ns n) ∙ sym (append_assoc front (10 ∷ (rest ++ form_text (form_of n))) (10 ∷ []))
-    ∙ ap (λ xs. xs ++ 10 ∷ []) (sym (append_assoc front (10 ∷ rest) (form_text (form_of n))))
+    ap (λ xs. prefix ++ 10 ∷ xs) (forms_push ns n) ∙ sym (append_assoc prefix (10 ∷ (rest ++ form_text (form_of n))) (10 ∷ []))
+    ∙ ap (λ xs. xs ++ 10 ∷ []) (sym (append_assoc prefix (10 ∷ rest) (form_text (form_of n))))
 
 -- the parts of a text, put one behind the other
 pub parts_in_order : (first bound forms last : List ℕ) → ((((first ++ bound) ++ 10 ∷ []) ++ forms) ++ last) ++ 10 ∷ [] ≡ first ++ (bound ++ 10 ∷ (forms ++ (last ++ 10 ∷ [])))

@@ -12,16 +12,16 @@ pub lines_append : (ns ms : List Node) → map form_of (ns ++ ms) ≡ map form_o
 lines_append [] ms = refl
 lines_append (n ∷ ns) ms = ap (λ fs. form_of n ∷ fs) (lines_append ns ms)
 
-front : (k n : ℕ) (fs : List Form) → n ≡ k → (ltb 0 (k + 1) && takes_up n fs) ≡ takes_up k fs
-front k n fs e =
+prefix : (k n : ℕ) (fs : List Form) → n ≡ k → (ltb 0 (k + 1) && takes_up n fs) ≡ takes_up k fs
+prefix k n fs e =
     let t : ltb 0 (k + 1) ≡ true = grind (arith, nat_tests) in
     rw t (ap (λ x. takes_up x fs) e)
 
 tree_on : (t : Tree) (k : ℕ) (fs : List Form) → takes_up (k + 1) (map form_of (nodes_of t) ++ fs) ≡ takes_up k fs
-tree_on (BadLeaf (reason.Hall class vars)) k fs = front k ((k + 1) - 1) fs (omega arith)
-tree_on (BadLeaf (reason.Limit limit)) k fs = front k ((k + 1) - 1) fs (omega arith)
-tree_on RankLeaf k fs = front k ((k + 1) - 1) fs (omega arith)
-tree_on WitnessLeaf k fs = front k ((k + 1) - 1) fs (omega arith)
+tree_on (BadLeaf (reason.Hall class vars)) k fs = prefix k ((k + 1) - 1) fs (omega arith)
+tree_on (BadLeaf (reason.Limit limit)) k fs = prefix k ((k + 1) - 1) fs (omega arith)
+tree_on RankLeaf k fs = prefix k ((k + 1) - 1) fs (omega arith)
+tree_on WitnessLeaf k fs = prefix k ((k + 1) - 1) fs (omega arith)
 tree_on (Fork v a l r) k fs =
     let t : ltb 0 (k + 1) ≡ true = grind (arith, nat_tests) in
     let left = map form_of (nodes_of l) in

@@ -10,7 +10,7 @@ use Rattle.box_split.proofs.RunLemmas.{box_root}
 use Rattle.search_api.specs.declared.outcome.Cause.{Cause}
 use Rattle.search_api.specs.declared.outcome.Cause.TheVariants as cause
 use Rattle.search_api.specs.declared.outcome.Closed.{Closed}
-use Rattle.res_base.proofs.ListLemmas.{each_push, each_front}
+use Rattle.res_base.proofs.ListLemmas.{each_push, each_prefix}
 use Rattle.box_split.proofs.PathLemmas.{lower_path, upper_path}
 use Rattle.refutation.specs.declared.node.Node.{Node}
 use Rattle.refutation.specs.declared.node.Node.TheVariants as node
@@ -62,7 +62,7 @@ module _ (vs : List VarShape) (best : Option ℕ) (closed : List Closed) where
 
   pub way_leaf : (pending : List ℕ) (nodes : List Node) (path : ℕ) (n : Node) → UnderWay vs best closed (pending ++ path ∷ []) nodes → node_at vs best closed path ≡ n → ((v k : ℕ) → n ≡ node.Split v k → ⊥) → UnderWay vs best closed pending (nodes ++ n ∷ [])
   way_leaf pending nodes path n w h leaf = record {
-    paths = (each_front (λ p. IsSome (box_of vs p)) pending path w.paths).0;
+    paths = (each_prefix (λ p. IsSome (box_of vs p)) pending path w.paths).0;
     leads = λ rest b.
         let s = w.leads (n ∷ rest) (subst (λ ps. Builds vs best closed ps (n ∷ rest)) (sym (reverse-append pending (path ∷ []))) (leaf_on n rest path (reverse pending) h leaf b)) in
         subst (λ xs. Builds vs best closed (1 ∷ []) xs) (sym (append_assoc nodes (n ∷ []) rest)) s;
@@ -74,7 +74,7 @@ module _ (vs : List VarShape) (best : Option ℕ) (closed : List Closed) where
   pub way_split : (pending : List ℕ) (nodes : List Node) (path v k : ℕ) (box : List Run) → UnderWay vs best closed (pending ++ path ∷ []) nodes → box_of vs path ≡ Some box → is_single box ≡ false → node_at vs best closed path ≡ node.Split v k → UnderWay vs best closed ((pending ++ (2 * path + 1) ∷ []) ++ (2 * path) ∷ []) (nodes ++ node.Split v k ∷ [])
   way_split pending nodes path v k box w e s h =
       let P : ℕ → Type 0 = λ p. IsSome (box_of vs p) in
-      let ps = (each_front P pending path w.paths).0 in
+      let ps = (each_prefix P pending path w.paths).0 in
       let turned : reverse ((pending ++ (2 * path + 1) ∷ []) ++ (2 * path) ∷ []) ≡ (2 * path) ∷ (2 * path + 1) ∷ reverse pending =
       reverse-append (pending ++ (2 * path + 1) ∷ []) ((2 * path) ∷ []) ∙ ap (λ xs. (2 * path) ∷ xs) (reverse-append pending ((2 * path + 1) ∷ [])) in
       record {

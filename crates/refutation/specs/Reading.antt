@@ -102,9 +102,9 @@ abbrev pub line_after : ℕ → ℕ
 line_after number = min (number + 1) 4294967295
 
 -- these nodes, and then what is read
-abbrev pub with_front : List Form → Result (List Form) ProofFault → Result (List Form) ProofFault
-with_front front (Err e) = Err e
-with_front front (Ok forms) = Ok (front ++ forms)
+abbrev pub with_prefix : List Form → Result (List Form) ProofFault → Result (List Form) ProofFault
+with_prefix prefix (Err e) = Err e
+with_prefix prefix (Ok forms) = Ok (prefix ++ forms)
 
 -- so many trees, then the last line, and nothing after it
 abbrev pub forms_from : ℕ → ℕ → List Line → Result (List Form) ProofFault
@@ -112,7 +112,7 @@ forms_from number due [] = Err (fault.Line number)
 forms_from number zero (l ∷ []) = if l.ended && is_text (codes "end") l then Ok [] else Err (fault.Line number)
 forms_from number zero (l ∷ m ∷ ls) = if l.ended && is_text (codes "end") l then Err (fault.Line (line_after number)) else Err (fault.Line number)
 forms_from number (suc due) (l ∷ ls) =
-    option_map_or (λ f. with_front (f ∷ []) (forms_from (line_after number) (due_after (suc due) f) ls)) (ended_as form_of_text l) (Err (fault.Line number))
+    option_map_or (λ f. with_prefix (f ∷ []) (forms_from (line_after number) (due_after (suc due) f) ls)) (ended_as form_of_text l) (Err (fault.Line number))
 
 -- a bound, and then what is read
 abbrev pub with_bound : Option ℕ → Result (List Form) ProofFault → Result (Option ℕ × List Form) ProofFault

@@ -33,13 +33,13 @@ any_same zero f g e = refl
 any_same (suc n) f g e = rw (any_same n f g e, e n) refl
 
 -- the first of them apart
-any_front : (n : ℕ) (f : ℕ → Bool) → any_below (suc n) f ≡ (f 0 || any_below n (λ i. f (suc i)))
-any_front zero f = or_end (f 0)
+any_prefix : (n : ℕ) (f : ℕ → Bool) → any_below (suc n) f ≡ (f 0 || any_below n (λ i. f (suc i)))
+any_prefix zero f = or_end (f 0)
   where
     or_end : (a : Bool) → (false || a) ≡ (a || false)
     or_end true = refl
     or_end false = refl
-any_front (suc n) f = ap (λ b. b || f (suc n)) (any_front n f) ∙ sym (or_move (f 0) (any_below n (λ i. f (suc i))) (f (suc n)))
+any_prefix (suc n) f = ap (λ b. b || f (suc n)) (any_prefix n f) ∙ sym (or_move (f 0) (any_below n (λ i. f (suc i))) (f (suc n)))
 
 -- ---- whose variable it is
 
@@ -94,7 +94,7 @@ module _ (class : Class) where
     where
       by : (b : Bool) → is_contestant (contestants class (first + 1) uss rs) v ≡ is_of_class class (first + 1) uss v
           → is_contestant (joined b record { variable = first; uses = uses_in us r } (contestants class (first + 1) uss rs)) v ≡ ((b && (first == v)) || is_of_class class (first + 1) uss v)
-      by true e = any_front (length (contestants class (first + 1) uss rs)) (λ i. variable_at (record { variable = first; uses = uses_in us r } ∷ contestants class (first + 1) uss rs) i == v) ∙ ap (λ b. (first == v) || b) e
+      by true e = any_prefix (length (contestants class (first + 1) uss rs)) (λ i. variable_at (record { variable = first; uses = uses_in us r } ∷ contestants class (first + 1) uss rs) i == v) ∙ ap (λ b. (first == v) || b) e
       by false e = e
 
 -- ---- whether all are
@@ -128,7 +128,7 @@ module _ (t : TableParts) (class : Class) (vars : VarSet) where
           → among (joined b record { variable = first; uses = uses_in us run } (contestants class (first + 1) uss rs)) r ≡ (((b && in_set vars first) && has_resource t class (uses_in us run) r) || is_used t class vars (first + 1) uss rs r)
       by true e =
           let all : List Contestant = record { variable = first; uses = uses_in us run } ∷ contestants class (first + 1) uss rs in
-          any_front (length (contestants class (first + 1) uss rs)) (λ i. in_set vars (variable_at all i) && wants t class all i r)
+          any_prefix (length (contestants class (first + 1) uss rs)) (λ i. in_set vars (variable_at all i) && wants t class all i r)
           ∙ ap (λ b. (in_set vars first && has_resource t class (uses_in us run) r) || b) e
       by false e = e
 

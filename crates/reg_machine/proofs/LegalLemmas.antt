@@ -98,11 +98,11 @@ below_fact : (n : ℕ) (wanted : List (Option Mode)) (g : List ℕ) → are_lega
 unfolding are_legal_below
 below_fact zero wanted g e = record { pin = λ p l. absurd (omega arith) }
 below_fact (suc n) wanted g e =
-    let front = below_fact n wanted g (and_right (is_place_legal wanted g n) (are_legal_below n wanted g) e) in
+    let prefix = below_fact n wanted g (and_right (is_place_legal wanted g n) (are_legal_below n wanted g) e) in
     let last = (pin_says (get_or wanted n None) n (mode_field n g) (af_field n g)).0 (and_left (is_place_legal wanted g n) (are_legal_below n wanted g) e) in
     record {
       pin = λ p l. elim (cases_lt p n) [
-        | inl y ↦ front.pin p y
+        | inl y ↦ prefix.pin p y
         | inr y ↦ let same : n ≡ p = omega arith in subst (λ q. IsPinLegal (get_or wanted q None) q (mode_field q g) (af_field q g)) same last
       ];
     }

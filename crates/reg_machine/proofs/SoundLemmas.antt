@@ -1,4 +1,4 @@
--- How a list of ops is shown to be sound, from its end to its front.
+-- How a list of ops is shown to be sound, from its end to its beginning.
 use Rattle.std.proofs.Common.{◌≡◌, ℕ, zero, suc, ◌+◌, ◌<◌, ◌≤◌, List, [], ◌∷◌, length, Bool, true, false, ◌||◌, inl, inr, refl, sym, subst, ap, ◌∙◌, arith}
 use Rattle.reg_machine.specs.declared.op.Timeout.{Timeout}
 use Rattle.reg_machine.specs.declared.op.Op.{Op}

@@ -56,15 +56,15 @@ stays_over (suc n) (a ∷ answers) c e = stays_over n answers (next a c) (next_o
 
 -- ---- the first step
 
-front_moments : (n : ℕ) (answers : List Answer) (op : Op) (ops : List Op) (s : State)
+prefix_moments : (n : ℕ) (answers : List Answer) (op : Op) (ops : List Op) (s : State)
     → moments (suc n) answers (Running (op ∷ ops) s) ≡ moment (get_or answers 0 silent) op s ∷ moments n (drop 1 answers) (after op ops (step_of s op (get_or answers 0 silent)))
-front_moments n [] op ops s = refl
-front_moments n (a ∷ answers) op ops s = refl
+prefix_moments n [] op ops s = refl
+prefix_moments n (a ∷ answers) op ops s = refl
 
-front_config : (n : ℕ) (answers : List Answer) (op : Op) (ops : List Op) (s : State)
+prefix_config : (n : ℕ) (answers : List Answer) (op : Op) (ops : List Op) (s : State)
     → config_at (suc n) answers (Running (op ∷ ops) s) ≡ config_at n (drop 1 answers) (after op ops (step_of s op (get_or answers 0 silent)))
-front_config n [] op ops s = refl
-front_config n (a ∷ answers) op ops s = refl
+prefix_config n [] op ops s = refl
+prefix_config n (a ∷ answers) op ops s = refl
 
 on_after : (op : Op) (ops : List Op) (x : Stepped) (s : State) → goes_on x ≡ true → after op ops (x, s) ≡ Running (todo_after x (op ∷ ops)) s
 on_after op ops stepped.Went s e = refl
@@ -161,11 +161,11 @@ module _ (legal : State → Bool) (over : Bool) (whole out : List ℕ) (number :
         record {
           text =
               h.text
-              ∙ ap (λ (ms : List Moment). out ++ text_of (lines_from legal number fine ms)) (front_moments n coming op ops s ∙ ap (λ (c : Config). m ∷ moments n (drop 1 coming) c) on)
+              ∙ ap (λ (ms : List Moment). out ++ text_of (lines_from legal number fine ms)) (prefix_moments n coming op ops s ∙ ap (λ (c : Config). m ∷ moments n (drop 1 coming) c) on)
               ∙ ap (λ (b : Bool). out ++ text_of (step_lines number now op m.state m.stepped ++ cond b rest [])) e
               ∙ ap (λ (t : List ℕ). out ++ t) (text_append (step_lines number now op m.state m.stepped) rest)
               ∙ sym (append_assoc out (text_of (step_lines number now op m.state m.stepped)) (text_of rest));
-          run = h.run ∙ ap is_over (front_config n coming op ops s ∙ ap (config_at n (drop 1 coming)) on);
+          run = h.run ∙ ap is_over (prefix_config n coming op ops s ∙ ap (config_at n (drop 1 coming)) on);
           small = omega (arith, h.small, at_most_one m.stepped);
         }
       where
@@ -179,10 +179,10 @@ module _ (legal : State → Bool) (over : Bool) (whole out : List ℕ) (number :
     ends e h =
         let rest = lines_from legal (number_after m.stepped number) (fine_after m.stepped now) (moments n (drop 1 coming) later) in
         record {
-          over_is = h.run ∙ ap is_over (front_config n coming op ops s) ∙ stays_over n (drop 1 coming) later (off_after op ops m.stepped m.state e);
+          over_is = h.run ∙ ap is_over (prefix_config n coming op ops s) ∙ stays_over n (drop 1 coming) later (off_after op ops m.stepped m.state e);
           whole_is =
               h.text
-              ∙ ap (λ (ms : List Moment). out ++ text_of (lines_from legal number fine ms)) (front_moments n coming op ops s)
+              ∙ ap (λ (ms : List Moment). out ++ text_of (lines_from legal number fine ms)) (prefix_moments n coming op ops s)
               ∙ ap (λ (b : Bool). out ++ text_of (step_lines number now op m.state m.stepped ++ cond b rest [])) e
               ∙ ap (λ (ls : List TraceLine). out ++ text_of ls) (append-nil (step_lines number now op m.state m.stepped));
         }

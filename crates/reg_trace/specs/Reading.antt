@@ -6,6 +6,7 @@ use Rattle.std.specs.Str.Parse.{digits_value}
 use Rattle.reg_machine.specs.declared.op.Answer.{Answer}
 use Rattle.reg_machine.specs.Run.{silent}
 use Rattle.text_lines.specs.Lines.{TextLine, fields, lines_of}
+use Rattle.res_model.specs.Steps.{with_prefix}
 use Rattle.reg_trace.specs.declared.fault.AnswerFault.{AnswerFault}
 use Rattle.reg_trace.specs.declared.fault.AnswerFault.TheVariants as fault
 use Rattle.reg_trace.specs.declared.reading.Repeated.{Repeated}
@@ -85,16 +86,11 @@ ended_as read l = if l.ended then read l.text else None
 abbrev pub line_after : ℕ → ℕ
 line_after number = min (number + 1) 4294967295
 
--- these answers, and then what is read
-abbrev pub with_front : List Answer → Result (List Answer) AnswerFault → Result (List Answer) AnswerFault
-with_front front (Err e) = Err e
-with_front front (Ok answers) = Ok (front ++ answers)
-
 -- the answers of lines from one of this number on, where there is room for so many
 abbrev pub answers_from : ℕ → ℕ → List TextLine → Result (List Answer) AnswerFault
 answers_from number room [] = Ok []
 answers_from number room (l ∷ ls) =
-    option_map_or (λ (r : Repeated). if nat_lt room r.count then Err (fault.Line number) else with_front (replicate r.count r.answer) (answers_from (line_after number) (room - r.count) ls))
+    option_map_or (λ (r : Repeated). if nat_lt room r.count then Err (fault.Line number) else with_prefix (replicate r.count r.answer) (answers_from (line_after number) (room - r.count) ls))
     (ended_as (λ text. line_form (fields text)) l) (Err (fault.Line number))
 
 -- the answers that a text says, or its first line that breaks the form or passes the most

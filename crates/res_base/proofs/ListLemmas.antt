@@ -8,9 +8,9 @@ pub each_push : {X : Type 0} (P : X → Type 0) (xs : List X) (y : X) → Each P
 each_push P [] y h p = (p, tt)
 each_push P (x ∷ xs) y h p = (h.0, each_push P xs y h.1 p)
 
-pub each_front : {X : Type 0} (P : X → Type 0) (xs : List X) (y : X) → Each P (xs ++ y ∷ []) → Each P xs × P y
-each_front P [] y h = (tt, h.0)
-each_front P (x ∷ xs) y h = let r = each_front P xs y h.1 in ((h.0, r.0), r.1)
+pub each_prefix : {X : Type 0} (P : X → Type 0) (xs : List X) (y : X) → Each P (xs ++ y ∷ []) → Each P xs × P y
+each_prefix P [] y h = (tt, h.0)
+each_prefix P (x ∷ xs) y h = let r = each_prefix P xs y h.1 in ((h.0, r.0), r.1)
 
 pub each_map : {X : Type 0} (P Q : X → Type 0) (xs : List X) → ((x : X) → P x → Q x) → Each P xs → Each Q xs
 each_map P Q [] f h = tt
@@ -36,11 +36,11 @@ pub pairs_push : {X : Type 0} (R : X → X → Type 0) (xs : List X) (y : X) →
 pairs_push R [] y h e = (tt, tt)
 pairs_push R (x ∷ xs) y h e = (each_push (R x) xs y h.0 e.0, pairs_push R xs y h.1 e.1)
 
-pub pairs_front : {X : Type 0} (R : X → X → Type 0) (xs : List X) (y : X) → Pairwise R (xs ++ y ∷ []) → Pairwise R xs × Each (λ x. R x y) xs
-pairs_front R [] y h = (tt, tt)
-pairs_front R (x ∷ xs) y h =
-    let a = each_front (R x) xs y h.0 in
-    let b = pairs_front R xs y h.1 in
+pub pairs_prefix : {X : Type 0} (R : X → X → Type 0) (xs : List X) (y : X) → Pairwise R (xs ++ y ∷ []) → Pairwise R xs × Each (λ x. R x y) xs
+pairs_prefix R [] y h = (tt, tt)
+pairs_prefix R (x ∷ xs) y h =
+    let a = each_prefix (R x) xs y h.0 in
+    let b = pairs_prefix R xs y h.1 in
     ((a.0, b.0), (a.1, b.1))
 
 pub member_left : {X : Type 0} (x : X) (xs ys : List X) → Member x xs → Member x (xs ++ ys)

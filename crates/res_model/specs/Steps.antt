@@ -23,6 +23,6 @@ gathered f (d ∷ ds) = do
   Ok (xs ++ ys)
 
 -- these, and then what is read of the rest
-abbrev pub with_front : {X E : Type 0} → List X → Result (List X) E → Result (List X) E
-with_front front (Err e) = Err e
-with_front front (Ok xs) = Ok (front ++ xs)
+abbrev pub with_prefix : {X E : Type 0} → List X → Result (List X) E → Result (List X) E
+with_prefix prefix (Err e) = Err e
+with_prefix prefix (Ok xs) = Ok (prefix ++ xs)

@@ -4,7 +4,7 @@ use Rattle.std.specs.Prelude.{not, is_some}
 use Rattle.choice_rank.specs.declared.variable.VarShape.{VarShape}
 use Rattle.choice_rank.specs.Choices.{HasPositions}
 use Rattle.res_base.specs.Lists.{Each}
-use Rattle.res_base.proofs.ListLemmas.{each_push, each_front}
+use Rattle.res_base.proofs.ListLemmas.{each_push, each_prefix}
 use Rattle.box_split.specs.Boxes.{Run, is_single}
 use Rattle.box_split.specs.Paths.{box_of, split_from, lower, upper}
 use Rattle.box_split.specs.BoxIn.{box_in}
@@ -35,10 +35,10 @@ module _ (vs : List VarShape) where
   upper_is e v k at s = upper_path vs e.path (box_in vs e.b) at (split_open (box_in vs e.b) v k s)
 
   pub at_last : (es : List Place) (e : Place) → Each (IsAt vs) (es ++ e ∷ []) → IsAt vs e
-  at_last es e h = (each_front (IsAt vs) es e h).1
+  at_last es e h = (each_prefix (IsAt vs) es e h).1
 
   pub at_rest : (es : List Place) (e : Place) → Each (IsAt vs) (es ++ e ∷ []) → Each (IsAt vs) es
-  at_rest es e h = (each_front (IsAt vs) es e h).0
+  at_rest es e h = (each_prefix (IsAt vs) es e h).0
 
   pub at_halves : (e : Place) (es new : List Place) → PushesHalves vs e es new → Each (IsAt vs) es → Each (IsAt vs) new
   at_halves e es new h a =

@@ -4,7 +4,7 @@ use Rattle.std.specs.Prelude.{slice_get}
 use Rattle.std.specs.Option.{option_to_list}
 use Rattle.std.proofs.lemmas.List.{append-nil}
 use Rattle.std.proofs.lemmas.Option.{none-some, same_Some}
-use Rattle.res_base.proofs.ListLemmas.{each_map, each_push, pairs_front, pairs_push}
+use Rattle.res_base.proofs.ListLemmas.{each_map, each_push, pairs_prefix, pairs_push}
 use Rattle.box_split.proofs.PathLemmas.{path_box}
 use Rattle.search_api.specs.Meaning.{Meaning, IsLawful}
 use Rattle.serial_search.specs.Going.{IsBefore}
@@ -84,7 +84,7 @@ module _ (m : Meaning) where
       subst (λ (x : Core). AllOrdered x.deques x.hands) (sym p.new_is)
       (both_put c.deques c.hands w p.deque (p.deque ++ high ∷ []) p.hand (with_path p.hand (Some low)) p.has_deque p.holds.has_hand
       (λ o.
-      let r = pairs_front R p.deque p.path (held p.deque p.hand p.path p.holds.has_path o) in
+      let r = pairs_prefix R p.deque p.path (held p.deque p.hand p.path p.holds.has_path o) in
       let more = pairs_push R p.deque high r.0 (each_map (λ x. R x p.path) (λ x. R x high) p.deque (λ x b. omega (arith, b, d.last_high)) r.1) in
       pairs_push R (p.deque ++ high ∷ []) low more (each_push (λ x. R x low) p.deque high (each_map (λ x. R x p.path) (λ x. R x low) p.deque (λ x b. omega (arith, b, d.last_high, d.between, d.high_upright)) r.1) d.between)) h)
 
@@ -107,7 +107,7 @@ module _ (m : Meaning) where
 
   -- a hand lets its path go
   let_go : (hand new : Hand) (path : ℕ) → hand.path ≡ Some path → new.path ≡ None → (deque : List ℕ) → Ordered deque hand → Ordered deque new
-  let_go hand new path e n deque o = freed deque new n (pairs_front (λ x y. IsBefore m.shape y x) deque path (held deque hand path e o)).0
+  let_go hand new path e n deque o = freed deque new n (pairs_prefix (λ x y. IsBefore m.shape y x) deque path (held deque hand path e o)).0
 
   step_keeps : IsLawful m → (c new : Core) (e : Event) → Step m c e new → OwnFirst c e → AllOrdered c.deques c.hands → AllOrdered new.deques new.hands
   step_keeps lawful c new (event.Pop w) p o h = pop_keeps c new w p h

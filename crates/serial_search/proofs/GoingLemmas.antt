@@ -2,7 +2,7 @@
 use Rattle.std.proofs.Common.{◌≡◌, ℕ, zero, suc, ◌+◌, ◌*◌, ◌/◌, ◌^◌, ◌<◌, ◌≤◌, List, [], ◌∷◌, ◌++◌, true, false, Option, Some, None, inl, inr, refl, sym, subst, ap, ◌∙◌, arith}
 use Rattle.std.proofs.lemmas.Nat.{shr-shr, div_below, pow_pos, pow_below}
 use Rattle.res_base.specs.Lists.{Each, Member}
-use Rattle.res_base.proofs.ListLemmas.{total_snoc, each_push, each_front, each_map, member_left, member_last, pairs_push, pairs_front}
+use Rattle.res_base.proofs.ListLemmas.{total_snoc, each_push, each_prefix, each_map, member_left, member_last, pairs_push, pairs_prefix}
 use Rattle.box_split.specs.Boxes.{Run, IsBox, is_single, lows, low_of}
 use Rattle.box_split.specs.Paths.{box_of, covers}
 use Rattle.box_split.proofs.RunLemmas.{lt_tells, halves_count}
@@ -62,8 +62,8 @@ module _ (m : Meaning) where
   going_close : (pending : List ℕ) (best : Option ℕ) (kept : List ℕ) (closed : List Closed) (e : Closed) → Going m (pending ++ e.path ∷ []) best kept closed → e.worker ≡ 0 → IsEntry m kept e → Each (λ (x : Closed). IsInTime m.shape x e) closed → Going m pending best kept (closed ++ e ∷ [])
   going_close pending best kept closed e g w h late =
       let vs = m.shape in
-      let o = each_front (OpenAbove m) pending e.path g.open_pending in
-      let order = pairs_front (λ p q. IsBefore vs q p) pending e.path g.next_last in
+      let o = each_prefix (OpenAbove m) pending e.path g.open_pending in
+      let order = pairs_prefix (λ p q. IsBefore vs q p) pending e.path g.next_last in
       let All : Closed → Type 0 = λ x. Each (IsBefore vs x.path) (pending ++ e.path ∷ []) in
       let Rest : Closed → Type 0 = λ x. Each (IsBefore vs x.path) pending in
       let Last : Closed → Type 0 = λ x. IsBefore vs x.path e.path in
@@ -75,8 +75,8 @@ module _ (m : Meaning) where
         open_above = each_push (λ (x : Closed). OpenAbove m x.path) closed e g.open_above o.1;
         in_time = pairs_push (IsInTime vs) closed e g.in_time late;
         worker = each_push (λ (x : Closed). x.worker ≡ 0) closed e g.worker w;
-        in_order = pairs_push (λ (x y : Closed). IsBefore vs x.path y.path) closed e g.in_order (each_map All Last closed (λ x h. (each_front (IsBefore vs x.path) pending e.path h).1) g.ahead);
-        ahead = each_push Rest closed e (each_map All Rest closed (λ x h. (each_front (IsBefore vs x.path) pending e.path h).0) g.ahead) order.1;
+        in_order = pairs_push (λ (x y : Closed). IsBefore vs x.path y.path) closed e g.in_order (each_map All Last closed (λ x h. (each_prefix (IsBefore vs x.path) pending e.path h).1) g.ahead);
+        ahead = each_push Rest closed e (each_map All Rest closed (λ x h. (each_prefix (IsBefore vs x.path) pending e.path h).0) g.ahead) order.1;
         next_last = order.0;
         open_pending = o.0;
       }
@@ -106,12 +106,12 @@ module _ (m : Meaning) where
   going_split pending best kept closed path box g e ib s v =
       let vs = m.shape in
       let d = ordered vs path box e ib s in
-      let o = each_front (OpenAbove m) pending path g.open_pending in
+      let o = each_prefix (OpenAbove m) pending path g.open_pending in
       let up = open_half path 1 box (omega arith) e v o.1 in
       let two : 2 * path + 0 ≡ 2 * path = omega arith in
       let down = subst (OpenAbove m) two (open_half path 0 box (omega arith) e v o.1) in
       let R : ℕ → ℕ → Type 0 = λ p q. IsBefore vs q p in
-      let order = pairs_front R pending path g.next_last in
+      let order = pairs_prefix R pending path g.next_last in
       let more = pairs_push R pending (2 * path + 1) order.0 (each_map (λ x. R x path) (λ x. R x (2 * path + 1)) pending (λ x h. omega (arith, h, d.last_high)) order.1) in
       record {
         cover = λ c i. omega (arith, g.cover c i, total_snoc (λ p. covers vs p c) pending path, total_snoc (λ p. covers vs p c) (pending ++ (2 * path + 1) ∷ []) (2 * path), total_snoc (λ p. covers vs p c) pending (2 * path + 1), halves_count vs path box e s c);
@@ -124,7 +124,7 @@ module _ (m : Meaning) where
         in_order = g.in_order;
         ahead = each_map (λ (x : Closed). Each (IsBefore vs x.path) (pending ++ path ∷ [])) (λ (x : Closed). Each (IsBefore vs x.path) ((pending ++ (2 * path + 1) ∷ []) ++ (2 * path) ∷ [])) closed
             (λ x h.
-            let f = each_front (IsBefore vs x.path) pending path h in
+            let f = each_prefix (IsBefore vs x.path) pending path h in
             each_push (IsBefore vs x.path) (pending ++ (2 * path + 1) ∷ []) (2 * path) (each_push (IsBefore vs x.path) pending (2 * path + 1) f.0 (omega (arith, f.1, d.first_low, d.low_upright, d.between))) (omega (arith, f.1, d.first_low))) g.ahead;
         next_last = pairs_push R (pending ++ (2 * path + 1) ∷ []) (2 * path) more (each_push (λ x. R x (2 * path)) pending (2 * path + 1) (each_map (λ x. R x path) (λ x. R x (2 * path)) pending (λ x h. omega (arith, h, d.last_high, d.between, d.high_upright)) order.1) d.between);
         open_pending = each_push (OpenAbove m) (pending ++ (2 * path + 1) ∷ []) (2 * path) (each_push (OpenAbove m) pending (2 * path + 1) o.0 up) down;

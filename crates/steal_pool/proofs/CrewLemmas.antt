@@ -1,7 +1,7 @@
 -- Workers in a list, the one of the least number last.
 use Rattle.std.proofs.Common.{◌≡◌, ℕ, zero, suc, ◌+◌, List, [], ◌∷◌, ◌++◌, length, Vec, Global, sym, refl, ap, ◌∙◌, subst, arith, append_assoc, append-nil, length-append, add-one}
 use Rattle.res_base.specs.Lists.{Each, total}
-use Rattle.res_base.proofs.ListLemmas.{each_push, each_front, total_snoc}
+use Rattle.res_base.proofs.ListLemmas.{each_push, each_prefix, total_snoc}
 use Rattle.best_word.specs.declared.part.Part.TheVariants.{First, Other}
 use Rattle.best_word.specs.declared.word.BestWord.{BestWord}
 use Rattle.best_word.specs.declared.word.View.{View}
@@ -116,7 +116,7 @@ module _ {J S : Type 0} where
 
   pub crew_pop : (P : Shift J S → Type 0) (k : ℕ) (before all : Deques) (ss : List (Shift J S)) (s : Shift J S) → IsCrew P k before all (ss ++ s ∷ []) → P s × (s.job.walker.number ≡ k) × IsCrew P (k + 1) (before ++ owner_deque s.job.owner ∷ []) all ss
   crew_pop P k before all ss s c =
-      let e = each_front P ss s c.each in
+      let e = each_prefix P ss s c.each in
       let f = fall_pop k ss s c.numbers in
       (e.1, f.1, record { each = e.0; numbers = f.0; deques = append_assoc before (owner_deque s.job.owner ∷ []) (deques_of ss) ∙ (ap (λ l. before ++ l) (sym (deques_snoc ss s)) ∙ c.deques) })
 

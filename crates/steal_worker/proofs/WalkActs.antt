@@ -6,7 +6,7 @@ use Rattle.std.proofs.lemmas.Grind.{pow_more}
 use mathlib.Core.Logic.{dite}
 use native.Mathlib.Decide.{dec_le}
 use Rattle.res_base.specs.Lists.{Each, Member}
-use Rattle.res_base.proofs.ListLemmas.{each_push, each_front, each_map, member_left, member_right, member_split, member_last, member_one, pairs_push}
+use Rattle.res_base.proofs.ListLemmas.{each_push, each_prefix, each_map, member_left, member_right, member_split, member_last, member_one, pairs_push}
 use Rattle.choice_rank.specs.declared.variable.VarShape.{VarShape}
 use Rattle.choice_rank.specs.Choices.{IsShape}
 use Rattle.best_word.specs.declared.word.View.{View}
@@ -67,9 +67,9 @@ deep_push : (k : ℕ) (xs : List Place) (y : Place) (n : ℕ) → n ≡ k + leng
 deep_push k [] y n e le d = (subst (λ (m : ℕ). 2 ^ m ≤ y.path) (omega arith) le, tt)
 deep_push k (x ∷ xs) y n e le d = (d.0, deep_push (k + 1) xs y n (omega arith) le d.1)
 
-deep_front : (k : ℕ) (xs : List Place) (y : Place) → Deep k (xs ++ y ∷ []) → Deep k xs
-deep_front k [] y d = tt
-deep_front k (x ∷ xs) y d = (d.0, deep_front (k + 1) xs y d.1)
+deep_prefix : (k : ℕ) (xs : List Place) (y : Place) → Deep k (xs ++ y ∷ []) → Deep k xs
+deep_prefix k [] y d = tt
+deep_prefix k (x ∷ xs) y d = (d.0, deep_prefix (k + 1) xs y d.1)
 
 deep_last : (k : ℕ) (xs : List Place) (y : Place) (n : ℕ) → n ≡ k + length xs + 1 → Deep k (xs ++ y ∷ []) → 2 ^ n ≤ y.path
 deep_last k [] y n e d = let is : k + 1 ≡ n = omega arith in subst (λ (m : ℕ). 2 ^ m ≤ y.path) is d.0
@@ -214,11 +214,11 @@ module _ {J : Type 0} where
       -- the next place of the private end comes to the hand
       pub walks_pop : (p : Place) (v : View J) (old held : List Place) (closed : List Closed) → old ≡ held ++ p ∷ [] → Walks m number [] v old closed → Walks m number (p ∷ []) v held closed
       walks_pop p v old held closed is k =
-          let places = each_front (IsAt m.shape) held p (subst (Each (IsAt m.shape)) is k.places) in
+          let places = each_prefix (IsAt m.shape) held p (subst (Each (IsAt m.shape)) is k.places) in
           let deep : Deep 0 (held ++ p ∷ []) = subst (Deep 0) is k.deep in
           let a = pow_more 2 (length held) in
           let d = deep_last 0 held p (length held + 1) (omega arith) deep in
-          record { boxes = k.boxes; named = k.named; part = k.part; places = places.0; deep = deep_front 0 held p deep; hands = ((places.1, omega (arith, a, d)), tt) }
+          record { boxes = k.boxes; named = k.named; part = k.part; places = places.0; deep = deep_prefix 0 held p deep; hands = ((places.1, omega (arith, a, d)), tt) }
 
       -- a place comes from a deque to a worker that holds none
       pub walks_take : (p : Place) (v : View J) (held : List Place) (closed : List Closed) → held ≡ [] → IsAt m.shape p → 1 ≤ p.path → Walks m number [] v held closed → Walks m number (p ∷ []) v held closed

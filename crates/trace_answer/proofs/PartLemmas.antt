@@ -12,37 +12,37 @@ use Rattle.trace_answer.specs.Part.{CPart, behind, part_of, to_close}
 
 -- what stands before the lines that are left, all of which are looked at
 pub record ClosesFrom (text rest : List ℕ) : Type 0 where
-  pub front : List ℕ
-  pub cut : text ≡ front ++ rest
-  pub same : to_close (lines_of text) ≡ front ++ to_close (lines_of rest)
+  pub prefix : List ℕ
+  pub cut : text ≡ prefix ++ rest
+  pub same : to_close (lines_of text) ≡ prefix ++ to_close (lines_of rest)
 
 pub closes_all : (text : List ℕ) → ClosesFrom text text
-closes_all text = record { front = []; cut = refl; same = refl }
+closes_all text = record { prefix = []; cut = refl; same = refl }
 
 pub closes_past : (text rest line others : List ℕ) (ended : Bool) → ClosesFrom text rest → lines_of rest ≡ record { text = line; ended = ended } ∷ lines_of others → rest ≡ bytes_of (record { text = line; ended = ended }) ++ others
     → bytes_eq line (codes "}") ≡ false → ClosesFrom text others
 closes_past text rest line others ended h lines bytes e =
     let l : TextLine = record { text = line; ended = ended } in
     record {
-      front = h.front ++ bytes_of l;
-      cut = h.cut ∙ ap (λ (xs : List ℕ). h.front ++ xs) bytes ∙ sym (append_assoc h.front (bytes_of l) others);
+      prefix = h.prefix ++ bytes_of l;
+      cut = h.cut ∙ ap (λ (xs : List ℕ). h.prefix ++ xs) bytes ∙ sym (append_assoc h.prefix (bytes_of l) others);
       same =
-          h.same ∙ ap (λ (ls : List TextLine). h.front ++ to_close ls) lines
-          ∙ ap (λ (b : Bool). h.front ++ cond b (bytes_of l) (bytes_of l ++ to_close (lines_of others))) e
-          ∙ sym (append_assoc h.front (bytes_of l) (to_close (lines_of others)));
+          h.same ∙ ap (λ (ls : List TextLine). h.prefix ++ to_close ls) lines
+          ∙ ap (λ (b : Bool). h.prefix ++ cond b (bytes_of l) (bytes_of l ++ to_close (lines_of others))) e
+          ∙ sym (append_assoc h.prefix (bytes_of l) (to_close (lines_of others)));
     }
 
-front_of : (xs ys : List ℕ) → take (length (xs ++ ys) - length ys) (xs ++ ys) ≡ xs
-front_of xs ys = grind (arith, common_steps)
+prefix_of : (xs ys : List ℕ) → take (length (xs ++ ys) - length ys) (xs ++ ys) ≡ xs
+prefix_of xs ys = grind (arith, common_steps)
 
 pub closes_here : (text rest line others : List ℕ) (ended : Bool) → ClosesFrom text rest → lines_of rest ≡ record { text = line; ended = ended } ∷ lines_of others → rest ≡ bytes_of (record { text = line; ended = ended }) ++ others
     → bytes_eq line (codes "}") ≡ true → take (length text - length others) text ≡ to_close (lines_of text)
 closes_here text rest line others ended h lines bytes e =
     let l : TextLine = record { text = line; ended = ended } in
-    let front = h.front ++ bytes_of l in
-    let cut : text ≡ front ++ others = h.cut ∙ ap (λ (xs : List ℕ). h.front ++ xs) bytes ∙ sym (append_assoc h.front (bytes_of l) others) in
-    ap (λ (xs : List ℕ). take (length xs - length others) xs) cut ∙ front_of front others
-    ∙ sym (h.same ∙ ap (λ (ls : List TextLine). h.front ++ to_close ls) lines ∙ ap (λ (b : Bool). h.front ++ cond b (bytes_of l) (bytes_of l ++ to_close (lines_of others))) e)
+    let prefix = h.prefix ++ bytes_of l in
+    let cut : text ≡ prefix ++ others = h.cut ∙ ap (λ (xs : List ℕ). h.prefix ++ xs) bytes ∙ sym (append_assoc h.prefix (bytes_of l) others) in
+    ap (λ (xs : List ℕ). take (length xs - length others) xs) cut ∙ prefix_of prefix others
+    ∙ sym (h.same ∙ ap (λ (ls : List TextLine). h.prefix ++ to_close ls) lines ∙ ap (λ (b : Bool). h.prefix ++ cond b (bytes_of l) (bytes_of l ++ to_close (lines_of others))) e)
 
 no_bytes : (xs : List ℕ) → length xs ≡ 0 → xs ≡ []
 no_bytes [] e = refl
@@ -51,9 +51,9 @@ no_bytes (x ∷ xs) e = absurd (omega (arith, e))
 pub closes_never : (text rest : List ℕ) → ClosesFrom text rest → length rest ≡ 0 → take (length text) text ≡ to_close (lines_of text)
 closes_never text rest h e =
     let none = no_bytes rest e in
-    let whole : text ≡ h.front = h.cut ∙ ap (λ (xs : List ℕ). h.front ++ xs) none ∙ append-nil h.front in
+    let whole : text ≡ h.prefix = h.cut ∙ ap (λ (xs : List ℕ). h.prefix ++ xs) none ∙ append-nil h.prefix in
     let all : take (length text) text ≡ text = grind (arith, common_steps) in
-    all ∙ whole ∙ sym (h.same ∙ ap (λ (xs : List ℕ). h.front ++ to_close (lines_of xs)) none ∙ append-nil h.front)
+    all ∙ whole ∙ sym (h.same ∙ ap (λ (xs : List ℕ). h.prefix ++ to_close (lines_of xs)) none ∙ append-nil h.prefix)
 
 -- ---- from the first line
 

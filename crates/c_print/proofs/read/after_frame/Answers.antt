@@ -10,8 +10,8 @@ pub loop-place-preserved : goal.loop-place-preserved
 loop-place-preserved c =
     let place = c.loop-place.place in
     let next = c.in-Some.names in
-    let front = concat (take place (frame next)) in
-    join front (get_or (frame next) place []) c.loop-place.rest.now c.in-Some.others.now c.args.text.now
+    let prefix = concat (take place (frame next)) in
+    join prefix (get_or (frame next) place []) c.loop-place.rest.now c.in-Some.others.now c.args.text.now
     (c.loop-place.invariant ∙ ap (λ (ls : List (List ℕ)). concat ls ++ c.loop-place.rest.now) (sym c.in-Some.ensures.0)) c.in-Some.ensures.1
     ∙ ap (λ (xs : List ℕ). xs ++ c.in-Some.others.now) (sym (frame_more next place c.loop-place-test.true))
 

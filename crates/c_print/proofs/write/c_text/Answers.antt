@@ -9,8 +9,8 @@ use Rattle.c_print.proofs.write.c_text.Goals as goal
 pub returns : goal.returns
 returns c =
     let body = concat (map op_line c.args.ops.now) in
-    let front = concat (frame (awaits_over c.args.ops.now)) in
-    let a : c.put_frame.new.out.items ≡ front = c.in_ok-put_frame.ensures ∙ ap (λ (xs : List ℕ). xs ++ concat (frame c.awaits_over.result)) c.new-out.ensures.items ∙ ap (λ o. concat (frame o)) c.awaits_over.ensures in
-    let b : c.put_ops.new.out.items ≡ front ++ body = c.in_ok-put_ops.ensures ∙ ap (λ (xs : List ℕ). xs ++ body) a in
-    let d : c.put_part.new.out.items ≡ (front ++ body) ++ part_text part.Return = c.in_ok-put_part.ensures ∙ ap (λ (xs : List ℕ). xs ++ part_text part.Return) b in
+    let prefix = concat (frame (awaits_over c.args.ops.now)) in
+    let a : c.put_frame.new.out.items ≡ prefix = c.in_ok-put_frame.ensures ∙ ap (λ (xs : List ℕ). xs ++ concat (frame c.awaits_over.result)) c.new-out.ensures.items ∙ ap (λ o. concat (frame o)) c.awaits_over.ensures in
+    let b : c.put_ops.new.out.items ≡ prefix ++ body = c.in_ok-put_ops.ensures ∙ ap (λ (xs : List ℕ). xs ++ body) a in
+    let d : c.put_part.new.out.items ≡ (prefix ++ body) ++ part_text part.Return = c.in_ok-put_part.ensures ∙ ap (λ (xs : List ℕ). xs ++ part_text part.Return) b in
     c.in_ok-put_part-2.ensures ∙ ap (λ (xs : List ℕ). xs ++ part_text part.Close) d ∙ in_order c.args.ops.now

@@ -9,9 +9,9 @@ loop-place-preserved c =
     let place = c.loop-place.place in
     let old = c.args.out.now.items in
     let over = c.args.over in
-    let front = concat (take place (frame over)) in
+    let prefix = concat (take place (frame over)) in
     c.in_ok-put_part.ensures
     ∙ ap (λ (xs : List ℕ). xs ++ part_text c.frame_part.result) c.loop-place.invariant
-    ∙ append_assoc old front (part_text c.frame_part.result)
-    ∙ ap (λ (xs : List ℕ). old ++ (front ++ xs)) c.frame_part.ensures
+    ∙ append_assoc old prefix (part_text c.frame_part.result)
+    ∙ ap (λ (xs : List ℕ). old ++ (prefix ++ xs)) c.frame_part.ensures
     ∙ ap (λ (xs : List ℕ). old ++ xs) (sym (frame_more over place c.loop-place-test.true))

@@ -1,5 +1,5 @@
 use Rattle.std.proofs.Common.{◌∙◌, ◌+◌, List, sym, ap, arith}
-use Rattle.res_model.specs.Steps.{with_front}
+use Rattle.res_model.specs.Steps.{with_prefix}
 use Rattle.ioc_lines.specs.Lines.{TextLine, text_line, text_lines}
 use Rattle.ioc_write.specs.WriteBack.{line_written, lines_written}
 use Rattle.ioc_write.proofs.Walks.{line_put}
@@ -16,7 +16,7 @@ write-preserved c =
     record {
       same =
           line_put c.write.out.items c.put_line.new.out.items (line_written p at pins n l) more c.in_ok-put_line.ensures
-          ∙ ap (λ (ls : List TextLine). with_front c.write.out.items (lines_written p at pins n ls)) (sym c.first_line.ensures.lines)
+          ∙ ap (λ (ls : List TextLine). with_prefix c.write.out.items (lines_written p at pins n ls)) (sym c.first_line.ensures.lines)
           ∙ c.write.invariant.same;
       few = omega arith;
     }

@@ -10,7 +10,7 @@ loop-at-preserved g c =
     let piece : take (length text - at) (drop at text) ≡ drop at text = take_all (length text - at) (drop at text) (omega (arith, length-drop at text)) in
     record {
       within = omega (arith, c.in-Ok.ensures.some, length-drop at text);
-      front = rw take-add (appends_more _ _ _ _ _ c.loop-at.invariant.front (rw piece at c.in-Ok.ensures.bytes));
+      prefix = rw take-add (appends_more _ _ _ _ _ c.loop-at.invariant.prefix (rw piece at c.in-Ok.ensures.bytes));
       told = c.in-Ok.ensures.told ∙ c.loop-at.invariant.told;
       later = omega (arith, c.in-Ok.ensures.later);
     }

@@ -1,6 +1,6 @@
 use Rattle.std.proofs.Common.{◌≡◌, ℕ, ◌+◌, ◌++◌, [], ◌∷◌, List, Vec, Global, length, take, drop, refl, sym, ap, ◌∙◌, subst, arith}
 use Rattle.res_base.specs.Lists.{Each, total}
-use Rattle.res_base.proofs.ListLemmas.{each_front, total_snoc}
+use Rattle.res_base.proofs.ListLemmas.{each_prefix, total_snoc}
 use Rattle.path_deque.specs.declared.deque.Owner.{Owner}
 use Rattle.path_deque.specs.declared.deque.Thief.{Thief}
 use Rattle.path_deque.specs.Ends.{owner_tally, owner_deque, thief_deque}
@@ -26,7 +26,7 @@ column-requires g c =
 pub close_deque-requires-clause-owner : goal.close_deque-requires-clause-owner
 close_deque-requires-clause-owner g c =
     let i = c.loop-owner.invariant in
-    let mine = (each_front (IsOwner (length c.args.rows.items)) c.pop.new.self.items c.in-Some.owner (subst (Each (IsOwner (length c.args.rows.items))) c.in-Some.ensures.items i.owners)).1 in
+    let mine = (each_prefix (IsOwner (length c.args.rows.items)) c.pop.new.self.items c.in-Some.owner (subst (Each (IsOwner (length c.args.rows.items))) c.in-Some.ensures.items i.owners)).1 in
     let n = c.in_ok-thieves.ensures.ends.0 in
     (mine.0, mine.1 ∙ (sym i.count ∙ (sym (ap (length {A = Vec Thief Global}) c.as_mut_slice.ensures.value) ∙ sym n)))
 
@@ -42,7 +42,7 @@ loop-owner-preserved g c =
     let same : length new ≡ length rows = c.in_ok-thieves.ensures.rows.0 ∙ ap (length {A = Vec Thief Global}) v in
     let back = whole new rows c.loop-owner.rows.len (omega arith) same in
     record {
-      owners = (each_front (IsOwner (length c.args.rows.items)) rest owner (subst (Each (IsOwner (length c.args.rows.items))) is i.owners)).0;
+      owners = (each_prefix (IsOwner (length c.args.rows.items)) rest owner (subst (Each (IsOwner (length c.args.rows.items))) is i.owners)).0;
       rows = rw back (rw c.as_slice.ensures.value at c.in_ok-thieves.ensures.rows.1);
       count = ap (length {A = Vec Thief Global}) back ∙ (same ∙ i.count);
       even = λ h.

@@ -3,7 +3,7 @@ use mathlib.Core.Option.{some}
 use lib.ListN.{get_elem?}
 use Rattle.crossbeam_deque.proofs.Lists.{at_index}
 use Rattle.res_base.specs.Lists.{Each, total}
-use Rattle.res_base.proofs.ListLemmas.{each_push, each_front, total_set, total_snoc}
+use Rattle.res_base.proofs.ListLemmas.{each_push, each_prefix, total_set, total_snoc}
 use Rattle.path_deque.specs.declared.deque.Thief.{Thief}
 use Rattle.path_deque.specs.Ends.{owner_deque, thief_tally, thief_deque}
 use Rattle.steal_worker.specs.Jobs.{stolen, IsThief, thief_deques}
@@ -27,7 +27,7 @@ loop-k-preserved c =
     let Cut : Vec Thief Global → Type 0 = IsRow ids in
     let was : Full old = each_drop_at Full rows k old at i.ahead in
     let is : old.items ≡ new.items ++ t ∷ [] = c.in-Some.ensures.items in
-    let thieves = each_front IsThief new.items t (subst (Each IsThief) is was.0) in
+    let thieves = each_prefix IsThief new.items t (subst (Each IsThief) is was.0) in
     let both = snoc_inj (thief_deques new.items) ids (thief_deque t) d (sym (map_snoc thief_deque new.items t) ∙ (sym (ap thief_deques is) ∙ was.1)) in
     let pushed = c.in_ok-push.ensures.items in
     let next = add-one k in

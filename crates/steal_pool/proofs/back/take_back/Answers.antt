@@ -1,6 +1,6 @@
 use Rattle.std.proofs.Common.{◌≡◌, ℕ, ◌+◌, [], ◌∷◌, ◌++◌, List, length, sym, ap, ◌∙◌, subst, arith, length-append, append-nil}
 use Rattle.res_base.specs.Lists.{Each, total}
-use Rattle.res_base.proofs.ListLemmas.{each_front, total_append, total_snoc}
+use Rattle.res_base.proofs.ListLemmas.{each_prefix, total_append, total_snoc}
 use Rattle.path_deque.specs.declared.deque.Tally.{Tally}
 use Rattle.path_deque.specs.declared.deque.Thief.{Thief}
 use Rattle.path_deque.specs.Ends.{owner_tally, owner_deque, thief_tally, thief_deque}
@@ -15,9 +15,9 @@ loop-thief-preserved c =
     let is : c.loop-thief.thieves.items ≡ rest ++ t ∷ [] = c.in-Some.ensures.items in
     let e = c.take_back.ensures.together in
     let o = owner_tally c.loop-thief.owner in
-    let ends = each_front IsThief rest t (subst (Each IsThief) is i.ends) in
+    let ends = each_prefix IsThief rest t (subst (Each IsThief) is i.ends) in
     let Of : Thief → Type 0 = λ (x : Thief). thief_deque x ≡ owner_deque c.args.owner in
-    let of = each_front Of rest t (subst (Each Of) is i.of) in
+    let of = each_prefix Of rest t (subst (Each Of) is i.of) in
     record {
       same = c.take_back.ensures.same ∙ i.same;
       ends = ends.0;
@@ -34,9 +34,9 @@ pub take_back-requires-clause-deque : goal.take_back-requires-clause-deque
 take_back-requires-clause-deque c =
     let i = c.loop-thief.invariant in
     let Of : Thief → Type 0 = λ (x : Thief). thief_deque x ≡ owner_deque c.args.owner in
-    (each_front Of c.pop.new.self.items c.in-Some.thief (subst (Each Of) c.in-Some.ensures.items i.of)).1 ∙ sym i.same
+    (each_prefix Of c.pop.new.self.items c.in-Some.thief (subst (Each Of) c.in-Some.ensures.items i.of)).1 ∙ sym i.same
 
 pub take_back-requires-clause-parts : goal.take_back-requires-clause-parts
 take_back-requires-clause-parts c =
     let i = c.loop-thief.invariant in
-    (i.owner.0, (each_front IsThief c.pop.new.self.items c.in-Some.thief (subst (Each IsThief) c.in-Some.ensures.items i.ends)).1.0)
+    (i.owner.0, (each_prefix IsThief c.pop.new.self.items c.in-Some.thief (subst (Each IsThief) c.in-Some.ensures.items i.ends)).1.0)

@@ -1,6 +1,6 @@
 use Rattle.std.proofs.Common.{◌≡◌, ◌+◌, ◌-◌, [], ◌∷◌, ◌++◌, Vec, Global, length, sym, ap, ◌∙◌, subst, arith, length-append}
 use Rattle.res_base.specs.Lists.{Each}
-use Rattle.res_base.proofs.ListLemmas.{each_front}
+use Rattle.res_base.proofs.ListLemmas.{each_prefix}
 use Rattle.best_word.specs.declared.part.Part.TheVariants.{First}
 use Rattle.best_word.specs.Word.{view_of, one_more_out}
 use Rattle.path_deque.specs.declared.deque.Owner.{Owner}
@@ -37,8 +37,8 @@ loop-owner-preserved g c =
     let is : c.loop-owner.owners.items ≡ rest ++ owner ∷ [] = c.in-Some.ensures.items in
     let s = c.in_ok-shift.shift in
     let pushed = c.in_ok-push.ensures.items in
-    let fresh = each_front (IsFresh n) rest owner (subst (Each (IsFresh n)) is i.fresh) in
-    let row = each_front (IsFreshRow all) c.last_row-thieves.new.rows.items c.last_row-thieves.result (subst (Each (IsFreshRow all)) c.last_row-thieves.ensures i.fresh_rows) in
+    let fresh = each_prefix (IsFresh n) rest owner (subst (Each (IsFresh n)) is i.fresh) in
+    let row = each_prefix (IsFreshRow all) c.last_row-thieves.new.rows.items c.last_row-thieves.result (subst (Each (IsFreshRow all)) c.last_row-thieves.ensures i.fresh_rows) in
     let ids : owner_deques c.loop-owner.owners.items ≡ owner_deques rest ++ owner_deque owner ∷ [] = ap owner_deques is ∙ map_snoc owner_deque rest owner in
     let own : owner_deque owner ≡ owner_deque s.job.owner = sym c.in_ok-shift.ensures.is.1 in
     let less : c.loop-owner.number ≡ c.loop-owner.number - 1 + 1 = (let a = i.owners in let b = ap (length {A = Owner}) is in omega (arith, a, b, length-append rest (owner ∷ []))) in
@@ -65,7 +65,7 @@ last_row-thieves-requires g c = let i = c.loop-owner.invariant in let a = i.owne
 pub shift_of-requires-clause-owner : goal.shift_of-requires-clause-owner
 shift_of-requires-clause-owner g c κs within =
     let n = c.args.workers in
-    ap (λ (t : Tally). t.part) (each_front (IsFresh n) c.pop.new.self.items c.in-Some.owner (subst (Each (IsFresh n)) c.in-Some.ensures.items c.loop-owner.invariant.fresh)).1
+    ap (λ (t : Tally). t.part) (each_prefix (IsFresh n) c.pop.new.self.items c.in-Some.owner (subst (Each (IsFresh n)) c.in-Some.ensures.items c.loop-owner.invariant.fresh)).1
 
 pub returns-clause-set_up : goal.returns-clause-set_up
 returns-clause-set_up g c =

@@ -9,5 +9,5 @@ loop-signal-preserved c =
     let below : c.loop-signal.signal < length c.args.self.now.signals = omega (arith, c.loop-signal-test.true, many) in
     record {
       size = length-set c.loop-signal.uses c.loop-signal.signal c.use_of.result ∙ c.loop-signal.invariant.size;
-      front = uses_more c.args.self.now c.parts_agree.ensures c.args.at.now c.requires c.loop-signal.uses c.loop-signal.signal c.use_of.result c.loop-signal.invariant.size below c.use_of.ensures c.loop-signal.invariant.front;
+      prefix = uses_more c.args.self.now c.parts_agree.ensures c.args.at.now c.requires c.loop-signal.uses c.loop-signal.signal c.use_of.result c.loop-signal.invariant.size below c.use_of.ensures c.loop-signal.invariant.prefix;
     }

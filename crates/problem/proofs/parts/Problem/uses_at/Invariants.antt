@@ -6,5 +6,5 @@ use Rattle.problem.proofs.parts.Problem.uses_at.Given as goal
 abbrev pub invariant-loop-signal : goal.invariant-loop-signal
 invariant-loop-signal l = record {
   size : length l.uses ≡ 160;
-  front : take l.signal l.uses ++ uses_at (drop l.signal l.self.uses) (drop l.signal (places_of l.self l.at)) ≡ uses_at l.self.uses (places_of l.self l.at);
+  prefix : take l.signal l.uses ++ uses_at (drop l.signal l.self.uses) (drop l.signal (places_of l.self l.at)) ≡ uses_at l.self.uses (places_of l.self l.at);
 }
