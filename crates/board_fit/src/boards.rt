@@ -31,6 +31,7 @@ use refutation::{Proof, write_proof};
 use res_base::{Items, OutOfMemory};
 use res_model::{Home, Opts, Project, Tables};
 use std::alloc::Global;
+use wish_search::{FoundIn, found_whole};
 
 /// The text of a refutation.
 fn refuted(alloc: Global, proof: &Proof) -> Result<Answer, OutOfMemory>
@@ -88,9 +89,8 @@ fn clocked(alloc: Global, q: &Problem, at: &[u16], one: Problem) -> Result<Answe
     requires whole { one.first ≢ 0 }
     ensures { IfOk result (λ a. OfClocks q.now at.now one a) }
 {
-    let judge = PinClockJudge::new(alloc, one)?;
-    let outcome = found(alloc, &judge)?;
-    clocks_told(alloc, q, at, &judge, outcome)
+    let FoundIn { judge, found } = found_whole(alloc, one)?;
+    clocks_told(alloc, q, at, &judge, found)
 }
 
 /// The problem of the clocks beside a placement. Its ranks always fit.

@@ -39,6 +39,13 @@ impl PinClockJudge {
     {
         &self.problem
     }
+
+    /// The problem, when no box of it is to be judged any more.
+    pub fn into_problem(self) -> Problem
+        ensures { result ≡ self.problem }
+    {
+        self.problem
+    }
 }
 
 /// That a problem with clock variables has what a judge keeps of it.

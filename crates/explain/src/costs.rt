@@ -1,22 +1,24 @@
 //! What the least choice costs.
-ghost use Rattle.std.specs.Prelude.{◌≡◌, ◌≢◌, ◌<◌, ◌^◌, None, true, IfOk};
+ghost use Rattle.std.specs.Prelude.{◌≡◌, ◌≢◌, ◌<◌, ◌^◌, None, Some, true, IfOk};
 ghost use Rattle.choice_rank.specs.Choices.{IsChoice, cost_of};
+ghost use Rattle.choice_rank.specs.Least.{IsAnswer};
 ghost use Rattle.ioc_project.specs.Read.{IsRead};
+ghost use Rattle.problem.specs.Meets.{meets};
 ghost use Rattle.problem.specs.Problem.{problem_of};
 ghost use Rattle.problem.specs.declared.parts.Part.TheVariants as part;
 ghost use Rattle.explain.specs.Left.{ComesTo, HasCost, IsLeastCost, lines_left, opts_left};
 
 use crate::kinds::Thing;
 use crate::left::{line_of, opts_left};
-use box_judge::PinClockJudge;
+use choice_rank::least_of;
 use ioc_project::read_project;
 use ioc_text::Ioc;
-use least_search::{Found, found};
 use problem::{Part, Problem, build, wide_variable};
 use refusal::Refusal;
 use res_base::OutOfMemory;
 use res_model::{Opts, Project, Tables};
 use std::alloc::Global;
+use wish_search::{Ranked, rank_alone};
 
 /// What a choice costs.
 fn cost_of(p: &Problem, at: &[u16]) -> u32
@@ -26,15 +28,24 @@ fn cost_of(p: &Problem, at: &[u16]) -> u32
     p.parts().shape.cost(at)
 }
 
+/// What the choice whose rank is the least costs.
+fn cost_at(alloc: Global, p: &Problem, rank: u64) -> Result<Option<u32>, OutOfMemory>
+    requires { IsAnswer p.now.shape (meets p.now) (Some rank) }
+    ensures { IfOk result (IsLeastCost p.now) }
+{
+    let at = least_of(alloc, &p.parts().shape, rank)?;
+    Ok(Some(cost_of(p, at.as_slice())))
+}
+
 /// The cost of the least choice of a whole problem that meets the limits; none where no choice does.
 pub fn least_cost(alloc: Global, p: Problem) -> Result<Option<u32>, OutOfMemory>
     requires { p.first ≢ 0 }
     ensures { IfOk result (IsLeastCost p) }
 {
-    let judge = PinClockJudge::new(alloc, p)?;
-    match found(alloc, &judge)? {
-        Found::Choice { at } => Ok(Some(cost_of(judge.problem(), at.as_slice()))),
-        Found::Nothing { .. } => Ok(None),
+    let Ranked { problem, best } = rank_alone(alloc, p)?;
+    match best {
+        Some(rank) => cost_at(alloc, &problem, rank),
+        None => Ok(None),
     }
 }
 

@@ -17,16 +17,16 @@ ghost use Rattle.explain.specs.GiveUp.{or_none};
 use crate::helps::helps;
 use crate::words::put_number;
 use answers::{Answer, Status, counts};
-use box_judge::PinClockJudge;
 use explain_text::{changes_text, why_text};
 use ioc_text::read_ioc;
-use least_search::{Found, found};
+use least_search::Found;
 use problem::{Part, Problem, build, wide_variable};
 use refusal::Refusal;
 use refutation::Proof;
 use res_base::{Items, OutOfMemory};
 use res_model::{Home, Opts, Project, Tables};
 use std::alloc::{AllocError, Global};
+use wish_search::{FoundIn, found_whole};
 
 #[tactic(auto, unfolding(crate::specs::Due::rank_line))]
 fn rank_line(alloc: Global, rank: u64, cost: u64, choices: u64) -> Result<String, AllocError>
@@ -155,8 +155,8 @@ fn narrow(
     requires short { length text.now < 2 ^ 32 }
     ensures { IfOk result (λ a. OfNarrow homes.now p text.now opts.now a) }
 {
-    let judge = PinClockJudge::new(alloc, p)?;
-    match found(alloc, &judge)? {
+    let FoundIn { judge, found } = found_whole(alloc, p)?;
+    match found {
         Found::Choice { at } => fits(alloc, homes, judge.problem(), at.as_slice(), text, opts),
         Found::Nothing { proof } => refused(alloc, homes, judge.problem(), &proof, text, opts),
     }

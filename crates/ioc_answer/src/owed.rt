@@ -13,7 +13,6 @@ ghost use Rattle.answers.specs.Said.{Says};
 ghost use Rattle.answers.specs.declared.answer.Status.TheVariants as status;
 
 use answers::{Answer, Status, counts, says};
-use box_judge::PinClockJudge;
 use choice_rank::least_of;
 use ioc_write::{BackFault, write_back};
 use problem::{Part, Problem, build, wide_variable};
@@ -25,7 +24,7 @@ use solver::too_wide;
 use std::alloc::Global;
 use std::sync::Wait;
 use std::thread::Threads;
-use steal_pool::search_by;
+use wish_search::{Ranked, least_rank};
 
 /// What is said of a line that would get too long.
 fn too_long(alloc: Global, line: u32) -> Result<Answer, OutOfMemory>
@@ -99,9 +98,8 @@ fn searched<R: Threads + Wait + Sync, G: Gate + Sync>(
     requires workers { (1 ≤ workers) × (workers ≤ 16) }
     ensures { IfOk result (λ a. OfIoc text.now p a) }
 {
-    let judge = PinClockJudge::new(alloc, p)?;
-    let outcome = search_by(rt, alloc, &judge, workers, gate)?;
-    told(alloc, text, judge.problem(), outcome.best)
+    let Ranked { problem, best } = least_rank(rt, alloc, p, workers, gate)?;
+    told(alloc, text, &problem, best)
 }
 
 /// The text of a project with the least choice of pins and clocks as its homes, found by 1 to 16 workers; or why it

@@ -5,3 +5,4 @@ pub mod DomainLemmas
 pub mod MeetsLemmas
 pub mod UseLemmas
 pub mod ValueLemmas
+mod WishLemmas

@@ -13,7 +13,7 @@ use Rattle.problem.specs.ClockValues.{clock_at}
 use Rattle.problem.specs.Meets.{meets, Meets, places_of}
 
 -- no limit is broken
-none_broken : (met : ℕ → Bool) (o : Option ℕ) → IsLeastBroken met o → is_none o ≡ true → (k : ℕ) → met k ≡ true
+pub none_broken : (met : ℕ → Bool) (o : Option ℕ) → IsLeastBroken met o → is_none o ≡ true → (k : ℕ) → met k ≡ true
 none_broken met None h e k = h k
 none_broken met (Some j) h e k = absurd cc
 
@@ -21,14 +21,14 @@ all_met : (met : ℕ → Bool) (o : Option ℕ) → IsLeastBroken met o → ((k 
 all_met met None h f = refl
 all_met met (Some j) h f = let t = f j in let e = h.1 in absurd cc
 
-whole_is : (n : ℕ) (b : Bool) → (n == 0 || b) ≡ true → n ≢ 0 → b ≡ true
+pub whole_is : (n : ℕ) (b : Bool) → (n == 0 || b) ≡ true → n ≢ 0 → b ≡ true
 whole_is n b e m = case (n == 0) refl e
   where
     case : (c : Bool) → (n == 0) ≡ c → (c || b) ≡ true → b ≡ true
     case true q h = let none : n ≡ 0 = grind (arith, nat_tests, q) in absurd (m none)
     case false q h = h
 
-part_is : (n : ℕ) (b : Bool) → (n ≢ 0 → b ≡ true) → (n == 0 || b) ≡ true
+pub part_is : (n : ℕ) (b : Bool) → (n ≢ 0 → b ≡ true) → (n == 0 || b) ≡ true
 part_is n b f = case (n == 0) refl
   where
     case : (c : Bool) → (n == 0) ≡ c → (c || b) ≡ true

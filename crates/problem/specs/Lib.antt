@@ -1,3 +1,4 @@
 pub mod ClockValues
 pub mod Meets
 pub mod Problem
+pub mod Wishes

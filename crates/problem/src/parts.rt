@@ -1,6 +1,7 @@
 //! The plain data of a problem.
 ghost use Rattle.std.specs.Prelude.{◌≡◌, ◌<◌, Some, length};
 ghost use Rattle.choice_rank.specs.Choices.{IsChoice};
+ghost use Rattle.problem.specs.Wishes.{low_wish};
 
 use choice_rank::Shape;
 use res_base::Items;
@@ -32,6 +33,24 @@ pub struct ProblemParts {
     pub tables: Tables,
 }
 
+/// The numbers of the clock variables that divide HCLK for the two buses.
+const PPRE1: usize = 7;
+
+const PPRE2: usize = 8;
+
+/// A wish from which on it is not multiplied by a divider of 16 bits.
+const HIGH: u64 = 1 << 48;
+
+fn low_wish(wish: u64, variable: usize) -> Option<(u64, usize)>
+    ensures { result ≡ low_wish wish variable }
+{
+    if wish < HIGH {
+        Some((wish, variable))
+    } else {
+        None
+    }
+}
+
 /// A problem whose parts agree. Contracts see the parts.
 #[derive(Drop)]
 pub struct Problem {
@@ -52,6 +71,7 @@ impl Model for Problem {
 
 impl Problem {
     ghost use Rattle.problem.specs.Problem.{IsProblem};
+    ghost use Rattle.problem.specs.Wishes.{bus_wish, with_hclk};
 
     /// The problem of these parts.
     pub(crate) fn of(parts: ProblemParts) -> Problem
@@ -59,6 +79,28 @@ impl Problem {
         ensures { result ≡ parts }
     {
         Problem { parts }
+    }
+
+    /// The same problem under another wish for HCLK, in hertz, or under none.
+    pub fn with_hclk(self, hclk: Option<u64>) -> Problem
+        ensures { result ≡ with_hclk hclk self }
+    {
+        let mut parts = self.parts;
+        parts.facts.hclk = hclk;
+        Problem::of(parts)
+    }
+
+    /// The wish for PCLK1, or else for PCLK2, in hertz, with the number of the clock variable of its divider (7 or 8), where
+    /// HCLK is not wished. A wish of 2^48 hertz or more is not told.
+    pub fn bus_wish(&self) -> Option<(u64, usize)>
+        ensures { result ≡ bus_wish self.now.facts }
+    {
+        let facts = &self.parts.facts;
+        match (facts.hclk, facts.pclk1, facts.pclk2) {
+            (None, Some(wish), _) => low_wish(wish, PPRE1),
+            (None, None, Some(wish)) => low_wish(wish, PPRE2),
+            _ => None,
+        }
     }
 
     pub fn parts(&self) -> &ProblemParts

@@ -1,6 +1,7 @@
 -- What closing, keeping and splitting do to a search under way.
-use Rattle.std.proofs.Common.{◌≡◌, ℕ, zero, suc, ◌+◌, ◌*◌, ◌/◌, ◌^◌, ◌<◌, ◌≤◌, List, [], ◌∷◌, ◌++◌, true, false, Option, Some, None, inl, inr, refl, sym, subst, ap, ◌∙◌, arith}
+use Rattle.std.proofs.Common.{◌≡◌, ℕ, zero, suc, ◌+◌, ◌*◌, ◌/◌, ◌^◌, ◌<◌, ◌≤◌, List, [], ◌∷◌, ◌++◌, true, false, Option, Some, None, IfSome, inl, inr, refl, sym, subst, ap, ◌∙◌, arith}
 use Rattle.std.proofs.lemmas.Nat.{shr-shr, div_below, pow_pos, pow_below}
+use Rattle.std.specs.Option.{option_to_list}
 use Rattle.res_base.specs.Lists.{Each, Member}
 use Rattle.res_base.proofs.ListLemmas.{total_snoc, each_push, each_prefix, each_map, member_left, member_last, pairs_push, pairs_prefix}
 use Rattle.box_split.specs.Boxes.{Run, IsBox, is_single, lows, low_of}
@@ -130,12 +131,20 @@ module _ (m : Meaning) where
         open_pending = each_push (OpenAbove m) (pending ++ (2 * path + 1) ∷ []) (2 * path) (each_push (OpenAbove m) pending (2 * path + 1) o.0 up) down;
       }
 
-  pub going_first : Going m (1 ∷ []) None [] []
-  going_first = record {
+  kept_legal : (known : Option ℕ) → IfSome known (IsLegalRank m) → Each (IsLegalRank m) (option_to_list known)
+  kept_legal None k = tt
+  kept_legal (Some rank) k = (k, tt)
+
+  known_best : (known : Option ℕ) → IsBest (option_to_list known) known
+  known_best None = refl
+  known_best (Some rank) = (inl refl, (omega arith, tt))
+
+  pub going_first : (known : Option ℕ) → IfSome known (IsLegalRank m) → Going m (1 ∷ []) known (option_to_list known) []
+  going_first known k = record {
     cover = λ c i. omega (arith, whole_covers m.shape c i);
     entries = tt;
-    legal = tt;
-    best_is = refl;
+    legal = kept_legal known k;
+    best_is = known_best known;
     open_above = tt;
     in_time = tt;
     worker = tt;

@@ -1,5 +1,6 @@
 -- The same with the box of each path beside it.
-use Rattle.std.proofs.Common.{◌≡◌, ℕ, List, [], ◌∷◌, ◌++◌, false, Option, Some, None, sym, subst}
+use Rattle.std.proofs.Common.{◌≡◌, ℕ, List, [], ◌∷◌, ◌++◌, false, Option, Some, None, IfSome, sym, subst}
+use Rattle.std.specs.Option.{option_to_list}
 use Rattle.box_split.specs.Boxes.{IsBox, is_single, low_of}
 use Rattle.box_split.specs.BoxIn.{box_in}
 use Rattle.box_split.proofs.PathLemmas.{path_box}
@@ -8,6 +9,7 @@ use Rattle.search_api.specs.declared.verdict.Verdict.TheVariants as verdict
 use Rattle.search_api.specs.declared.outcome.Cause.TheVariants as cause
 use Rattle.search_api.specs.declared.outcome.Closed.{Closed}
 use Rattle.search_api.specs.declared.place.Place.{Place}
+use Rattle.search_api.specs.Accounts.{IsLegalRank}
 use Rattle.search_api.specs.Meaning.{Meaning, IsLawful}
 use Rattle.search_api.specs.Places.{IsAt, PushesHalves, paths_of}
 use Rattle.search_api.proofs.PlaceLemmas.{paths_push, paths_halves, at_last, at_rest, at_halves}
@@ -54,5 +56,5 @@ module _ (m : Meaning) (lawful : IsLawful m) (pending : List Place) (place : Pla
         (going_split m (paths_of pending) best kept closed place.path (box_in m.shape place.b) before place_at place_box (place_open v) v);
   }
 
-pub walks_first : (m : Meaning) (place : Place) → place.path ≡ 1 → IsAt m.shape place → Walks m (place ∷ []) None [] []
-walks_first m place one at = record { at = (at, tt); going = subst (λ p. Going m (p ∷ []) None [] []) (sym one) (going_first m) }
+pub walks_first : (m : Meaning) (known : Option ℕ) (place : Place) → IfSome known (IsLegalRank m) → place.path ≡ 1 → IsAt m.shape place → Walks m (place ∷ []) known (option_to_list known) []
+walks_first m known place legal one at = record { at = (at, tt); going = subst (λ p. Going m (p ∷ []) known (option_to_list known) []) (sym one) (going_first m known legal) }

@@ -3,4 +3,4 @@
 
 mod walk;
 
-pub use walk::search;
+pub use walk::{search, search_below};

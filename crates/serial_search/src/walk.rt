@@ -1,8 +1,8 @@
 //! One worker's search, depth first.
-ghost use Rattle.std.specs.Prelude.{◌≡◌, ℕ, ◌<◌, List, [], ◌∷◌, ◌++◌, OnOk, IfOk, IsErr};
+ghost use Rattle.std.specs.Prelude.{◌≡◌, ℕ, ◌<◌, List, [], ◌∷◌, ◌++◌, OnOk, IfOk, IfSome, IsErr, option_to_list};
 ghost use Rattle.choice_rank.specs.Least.{IsAnswer};
 ghost use Rattle.search_api.specs.declared.outcome.Closed.{Closed};
-ghost use Rattle.search_api.specs.Accounts.{Accounted, InSerialOrder};
+ghost use Rattle.search_api.specs.Accounts.{Accounted, InSerialOrder, IsLegalRank};
 ghost use Rattle.search_api.specs.Places.{paths_of, work_of};
 ghost use Rattle.serial_search.specs.Going.{Walks, cut_rank};
 
@@ -22,17 +22,34 @@ struct Walk {
 
 /// Searches the boxes of a judge's shape, those of lower indices first.
 ///
-/// Each box is closed with its cause, or split where its verdict is open. Only want of memory makes it fail.
+/// Each box is closed with its cause, or split where its verdict is open. It fails only when it is out of memory.
 pub fn search<J: Judge>(alloc: Global, j: &J) -> Result<Outcome, OutOfMemory>
     ensures accounted { IfOk result (λ o. Accounted (J.meaning j.now) o.best o.kept o.closed) }
     ensures order { IfOk result (λ o. InSerialOrder (J.meaning j.now).shape o.closed) }
     ensures answer { IfOk result (λ o. IsAnswer (J.meaning j.now).shape (J.meaning j.now).legal o.best) }
 {
+    search_below(alloc, j, None)
+}
+
+/// The same, where the rank of a legal choice is known: boxes with no choice up to it are cut from the start.
+///
+/// So it closes no more boxes than the refutation of all lower ranks needs, if the known rank is the least.
+pub fn search_below<J: Judge>(
+    alloc: Global,
+    j: &J,
+    known: Option<u64>,
+) -> Result<Outcome, OutOfMemory>
+    requires { IfSome known (IsLegalRank (J.meaning j.now)) }
+    ensures accounted { IfOk result (λ o. Accounted (J.meaning j.now) o.best o.kept o.closed) }
+    ensures order { IfOk result (λ o. InSerialOrder (J.meaning j.now).shape o.closed) }
+    ensures answer { IfOk result (λ o. IsAnswer (J.meaning j.now).shape (J.meaning j.now).legal o.best) }
+{
     let mut scratch = j.scratch(alloc)?;
+    let kept = kept_first(alloc, known)?;
     let mut walk = Walk {
         pending: Vec::new(alloc),
-        best: None,
-        kept: Items::of(Vec::new(alloc)),
+        best: known,
+        kept,
         closed: Items::of(Vec::new(alloc)),
     };
     walk.pending.push(Place::root(j.shape()))?;
@@ -44,6 +61,17 @@ pub fn search<J: Judge>(alloc: Global, j: &J) -> Result<Outcome, OutOfMemory>
         kept: walk.kept,
         closed: walk.closed,
     })
+}
+
+/// The ranks that are kept before any box is closed.
+fn kept_first(alloc: Global, known: Option<u64>) -> Result<Items<u64>, OutOfMemory>
+    ensures { IfOk result (λ kept. kept ≡ option_to_list known) }
+{
+    let mut kept = Items::of(Vec::new(alloc));
+    if let Some(rank) = known {
+        kept.push(rank)?;
+    }
+    Ok(kept)
 }
 
 /// Closes the box of a place, or splits it.

@@ -17,6 +17,7 @@ ghost use Rattle.search_api.specs.Accounts.{Accounted};
 ghost use Rattle.res_model.specs.Valid.{IsValid};
 ghost use Rattle.solver.specs.Owed.{AreReadBack, AreSound, OfProblem, OfWhole};
 ghost use Rattle.solver.specs.Spelled.{IsAsked};
+ghost use Rattle.wish_search.specs.Early.{IsEarly};
 
 use crate::proof_text::refutation_text;
 use crate::wide::too_wide;
@@ -36,7 +37,7 @@ use search_api::Outcome;
 use std::alloc::Global;
 use std::sync::Wait;
 use std::thread::Threads;
-use steal_pool::search_by;
+use wish_search::{Asked, Early, ask_early, search_after};
 
 /// The refutation of all choices below the best one, where it is asked for.
 fn more_of(
@@ -180,6 +181,27 @@ fn searched<R: Threads + Wait + Sync, G: Gate + Sync>(
     rt: &R,
     alloc: Global,
     p: Problem,
+    early: Early,
+    proof: bool,
+    workers: u32,
+    gate: &G,
+) -> Result<Answer, OutOfMemory>
+    requires whole { p.first ≢ 0 }
+    requires placed { Each (IsPlaced p.tables) p.signals }
+    requires early { IsEarly p early }
+    requires workers { (1 ≤ workers) × (workers ≤ 16) }
+    ensures { IfOk result (λ a. OfWhole proof p a) }
+{
+    let judge = PinClockJudge::new(alloc, p)?;
+    let outcome = search_after(rt, alloc, &judge, early, workers, gate)?;
+    told(alloc, &judge, &outcome, proof)
+}
+
+/// What is due for a problem. A least choice that is known early needs no search of the others, where no refutation is asked for.
+fn answered<R: Threads + Wait + Sync, G: Gate + Sync>(
+    rt: &R,
+    alloc: Global,
+    p: Problem,
     proof: bool,
     workers: u32,
     gate: &G,
@@ -189,9 +211,11 @@ fn searched<R: Threads + Wait + Sync, G: Gate + Sync>(
     requires workers { (1 ≤ workers) × (workers ≤ 16) }
     ensures { IfOk result (λ a. OfWhole proof p a) }
 {
-    let judge = PinClockJudge::new(alloc, p)?;
-    let outcome = search_by(rt, alloc, &judge, workers, gate)?;
-    told(alloc, &judge, &outcome, proof)
+    let Asked { problem, early } = ask_early(alloc, p)?;
+    match early {
+        Early::Least { rank } if !proof => reported(alloc, &problem, rank, &[], proof),
+        _ => searched(rt, alloc, problem, early, proof, workers, gate),
+    }
 }
 
 /// The report of the least choice of pins and clocks that meets every limit, or the refutation of all choices.
@@ -215,7 +239,7 @@ pub fn resolve<R: Threads + Wait + Sync, G: Gate + Sync>(
     ensures { IfOk result (λ a. OfProblem (problem_of t p opts.now part.Whole) (OfWhole proof (problem_of t p opts.now part.Whole)) a) }
 {
     match build(alloc, t, p, opts, Part::Whole) {
-        Ok(problem) => searched(rt, alloc, problem, proof, workers, gate),
+        Ok(problem) => answered(rt, alloc, problem, proof, workers, gate),
         Err(Refusal::Fault(fault)) => too_wide(alloc, wide_variable(fault)),
         Err(Refusal::OutOfMemory) => Err(OutOfMemory),
     }

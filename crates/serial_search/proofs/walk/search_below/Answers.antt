@@ -1,5 +1,6 @@
-use Rattle.std.proofs.Common.{◌≡◌, ℕ, List, [], ◌∷◌, ◌++◌, None, sym, ap, subst, ◌∙◌, arith}
+use Rattle.std.proofs.Common.{◌≡◌, ℕ, List, [], ◌∷◌, ◌++◌, sym, ap, subst, ◌∙◌, arith}
 use Rattle.std.proofs.lemmas.List.{nil_from_length}
+use Rattle.std.specs.Option.{option_to_list}
 use Rattle.choice_rank.specs.declared.variable.VarShape.{VarShape}
 use Rattle.search_api.specs.declared.outcome.Closed.{Closed}
 use Rattle.search_api.specs.declared.place.Place.{Place}
@@ -8,9 +9,9 @@ use Rattle.search_api.proofs.AnswerLemmas.{answer}
 use Rattle.serial_search.specs.Going.{Going, Walks}
 use Rattle.serial_search.proofs.GoingLemmas.{going_done, order_done}
 use Rattle.serial_search.proofs.WalkLemmas.{walks_first}
-use Rattle.serial_search.proofs.walk.search.Given.{Over}
-use Rattle.serial_search.proofs.walk.search.Goals as goal
-use Rattle.serial_search.proofs.walk.search.Goals.{After-drop-scratch-2}
+use Rattle.serial_search.proofs.walk.search_below.Given.{Over}
+use Rattle.serial_search.proofs.walk.search_below.Goals as goal
+use Rattle.serial_search.proofs.walk.search_below.Goals.{After-drop-scratch-2}
 
 pub loop-place-init : goal.loop-place-init
 loop-place-init g c =
@@ -18,13 +19,15 @@ loop-place-init g c =
     let root = c.root.result in
     let at = subst (λ (vs : List VarShape). IsAt vs root) c.shape.ensures c.root.ensures.at in
     let one : c.push.new.self.items ≡ root ∷ [] = c.in_ok-push.ensures.items ∙ ap (λ (ps : List Place). ps ++ root ∷ []) c.new.ensures.items in
-    let kept : c.of.result ≡ [] = c.of.ensures ∙ c.new-2.ensures.items in
-    let closed : c.of-2.result ≡ [] = c.of-2.ensures ∙ c.new-3.ensures.items in (
+    let known = c.args.known in
+    let first = c.in_ok-kept.kept in
+    let kept : first ≡ option_to_list known = c.in_ok-kept.ensures in
+    let closed : c.of.result ≡ [] = c.of.ensures ∙ c.new-2.ensures.items in (
       c.in_ok-scratch.ensures,
-      subst (λ (ps : List Place). Walks m ps None c.of.result c.of-2.result) (sym one)
-          (subst (λ (ks : List ℕ). Walks m (root ∷ []) None ks c.of-2.result) (sym kept)
-          (subst (λ (xs : List Closed). Walks m (root ∷ []) None [] xs) (sym closed)
-          (walks_first m root c.root.ensures.path at))),
+      subst (λ (ps : List Place). Walks m ps known first c.of.result) (sym one)
+          (subst (λ (ks : List ℕ). Walks m (root ∷ []) known ks c.of.result) (sym kept)
+          (subst (λ (xs : List Closed). Walks m (root ∷ []) known (option_to_list known) xs) (sym closed)
+          (walks_first m known root c.requires c.root.ensures.path at))),
     )
 
 -- nothing is left to go

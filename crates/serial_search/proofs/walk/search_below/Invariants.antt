@@ -1,6 +1,6 @@
 use Rattle.search_api.specs.Places.{paths_of, work_of}
 use Rattle.serial_search.specs.Going.{Walks}
-use Rattle.serial_search.proofs.walk.search.Given as goal
+use Rattle.serial_search.proofs.walk.search_below.Given as goal
 
 abbrev pub invariant-loop-place : goal.invariant-loop-place
 invariant-loop-place g l = g.J.Judge.fits l.j l.scratch × Walks (g.J.Judge.meaning l.j) l.walk.pending.items l.walk.best l.walk.kept l.walk.closed
