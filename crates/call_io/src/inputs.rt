@@ -5,6 +5,7 @@ ghost use Rattle.call_io.specs.Inputs.{reads};
 ghost use Rattle.res_io.specs.Causes.{NoneFell};
 
 use answers::{Answer, Status, names};
+use refusal::Refusal;
 use res_base::{Items, OutOfMemory, Text};
 use res_io::{Inputs, ReadFault, read_all};
 use std::alloc::Global;
@@ -33,13 +34,13 @@ fn take_input<I: Inputs>(alloc: Global, inputs: &mut I, name: &str) -> Result<Ta
 {
     match read_all(alloc, inputs, name) {
         Ok(bytes) => Ok(Taken::Whole(Items::of(bytes))),
-        Err(ReadFault::Failed) => {
+        Err(Refusal::Fault(ReadFault::Failed)) => {
             Ok(Taken::Refused(names(alloc, Status::ReadFailed, "read failed: ", name)?))
         }
-        Err(ReadFault::TooLong) => {
+        Err(Refusal::Fault(ReadFault::TooLong)) => {
             Ok(Taken::Refused(names(alloc, Status::TooLong, "too long: ", name)?))
         }
-        Err(ReadFault::Memory) => Err(OutOfMemory),
+        Err(Refusal::OutOfMemory) => Err(OutOfMemory),
     }
 }
 

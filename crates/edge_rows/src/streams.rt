@@ -1,4 +1,5 @@
 //! Inputs, sinks, and the faults that they count.
+use refusal::Refusal;
 use res_base::{Items, Text};
 use res_io::{
     Failed, FileInputs, Gate, MemFile, MemInputs, MemSink, NoGate, OutSink, ReadFault, Sink,
@@ -40,7 +41,7 @@ fn inputs_in_memory_fail_at_the_listed_calls(rt: HostRuntime) -> Result<(), Fail
         let mut inputs = MemInputs::new(alloc, two_files(alloc)?, failing, 2);
         match (read_all(alloc, &mut inputs, name), want) {
             (Ok(bytes), Ok(want)) => assert_eq!(rt; bytes.as_slice(), want, "{name:?}"),
-            (Err(fault), Err(want)) => assert_eq!(rt; fault, want, "{name:?}"),
+            (Err(fault), Err(want)) => assert_eq!(rt; fault, Refusal::Fault(want), "{name:?}"),
             _ => panic!(rt; "{name:?}"),
         }
     }
@@ -59,7 +60,7 @@ fn inputs_are_read_up_to_the_limit(rt: HostRuntime) -> Result<(), Fail> {
         let mut inputs = SureInputs::new(files);
         match read_all(alloc, &mut inputs, "T") {
             Ok(bytes) => assert!(rt; fits && bytes.len() == len),
-            Err(fault) => assert!(rt; !fits && fault == ReadFault::TooLong),
+            Err(fault) => assert!(rt; !fits && fault == Refusal::Fault(ReadFault::TooLong)),
         }
     }
     let mut inputs = SureInputs::new(Vec::new(alloc));
@@ -100,7 +101,7 @@ fn files_are_read(rt: HostRuntime) -> Result<(), Fail> {
     assert!(rt; bytes.as_slice() == text.as_slice());
     assert_eq!(rt;
         read_all(alloc, &mut inputs, "absent").err(),
-        Some(ReadFault::Failed)
+        Some(Refusal::Fault(ReadFault::Failed))
     );
     Ok(())
 }

@@ -1,7 +1,9 @@
 -- What inputs tell of their files, and how much of one was taken.
 use Rattle.std.specs.Prelude.{ℕ, ◌≡◌, ◌≤◌, ◌<◌, List, Option, Some, None, Result, Ok, Err, option_and_then, length, ⊤}
+use Rattle.refusal.specs.declared.refusal.Refusal.{Refusal}
+use Rattle.refusal.specs.declared.refusal.Refusal.TheVariants.{Fault, OutOfMemory}
 use Rattle.res_io.specs.declared.inputs.ReadFault.{ReadFault}
-use Rattle.res_io.specs.declared.inputs.ReadFault.TheVariants.{Failed, TooLong, Memory}
+use Rattle.res_io.specs.declared.inputs.ReadFault.TheVariants.{Failed, TooLong}
 
 -- the bytes of a name, where a map is told and has it
 abbrev pub file_of : Option (List ℕ → Option (List ℕ)) → List ℕ → Option (List ℕ)
@@ -27,12 +29,12 @@ abbrev pub IsWithinLimit : Option (List ℕ) → ℕ → Type 0
 IsWithinLimit None taken = ⊤
 IsWithinLimit (Some name) taken = taken ≤ 67108864
 
--- too long is answered exactly where the open name is over the limit; want of memory says nothing
-abbrev pub TellsLimit : {X : Type 0} → Result X ReadFault → List ℕ → Option (List ℕ) → ℕ → Type 0
+-- too long is answered exactly where the open name is over the limit; out of memory says nothing
+abbrev pub TellsLimit : {X : Type 0} → Result X (Refusal ReadFault) → List ℕ → Option (List ℕ) → ℕ → Type 0
 TellsLimit (Ok bytes) name current taken = IsWithinLimit current taken
-TellsLimit (Err Failed) name current taken = IsWithinLimit current taken
-TellsLimit (Err TooLong) name current taken = IsOverLimit name current taken
-TellsLimit (Err Memory) name current taken = ⊤
+TellsLimit (Err (Fault Failed)) name current taken = IsWithinLimit current taken
+TellsLimit (Err (Fault TooLong)) name current taken = IsOverLimit name current taken
+TellsLimit (Err OutOfMemory) name current taken = ⊤
 
 -- the file is longer than the limit, where it is told
 abbrev pub IsLonger : Option (List ℕ) → Type 0

@@ -1,12 +1,14 @@
 //! Files and standard output of the process.
-ghost use Rattle.std.specs.Prelude.{◌≡◌, ◌≤◌, ◌<◌, ◌+◌, ◌-◌, ◌^◌, min, None, Some, IsSome, List, ℕ, IfOk, IfSome, OnOk, OnErr, IsErrOf, length, take};
+ghost use Rattle.std.specs.Prelude.{◌≡◌, ◌≤◌, ◌<◌, ◌+◌, ◌-◌, ◌^◌, min, None, Some, IsSome, List, ℕ, IfOk, IfErr, IfSome, OnOk, OnErr, IsErrOf, length, take};
 ghost use Rattle.std.specs.Io.KnownBytes.{Consumes, IsAtEnd, WriteAppends};
+ghost use Rattle.refusal.specs.Refusals.{IfFault};
 ghost use Rattle.res_io.specs.Bytes.{IsWhole, file_of};
 ghost use Rattle.res_io.specs.Calls.{one_more};
 ghost use Rattle.res_io.specs.Causes.{Rose};
 
-use crate::inputs::{BeginFault, Inputs};
+use crate::inputs::Inputs;
 use crate::sink::{Failed, Sink};
+use refusal::Refusal;
 use res_base::Text;
 use std::alloc::Global;
 use std::fs;
@@ -56,23 +58,21 @@ impl<R: Files> Inputs for FileInputs<'_, R> {
 
     ghost faults = { λ s _. s.faults };
 
-    fn begin(&mut self, alloc: Global, name: &str) -> Result<(), BeginFault>
+    fn begin(&mut self, alloc: Global, name: &str) -> Result<(), Refusal<Failed>>
         ensures begun { OnOk result ((self.new.name ≡ Some name.now) × (self.new.taken ≡ 0)) }
         ensures closed { OnErr result (self.new.name ≡ None) }
         ensures bytes { OnOk result (IsWhole (file_of None name.now) None) }
         ensures later { self.old.faults ≤ self.new.faults }
-        ensures failed { IsErrOf result BeginFault.Failed → Rose self.old.faults self.new.faults }
+        ensures failed { IfErr result (λ e. IfFault e (λ _. Rose self.old.faults self.new.faults)) }
 
         // A fault is counted where the file was not opened, and nowhere else.
         ensures none { OnOk result (self.new.faults ≡ self.old.faults) }
-        ensures memory { IsErrOf result BeginFault.Memory → self.new.faults ≡ self.old.faults }
-        ensures one { IsErrOf result BeginFault.Failed → self.new.faults ≡ one_more self.old.faults }
+        ensures memory { IsErrOf result Refusal.OutOfMemory → self.new.faults ≡ self.old.faults }
+        ensures one { IfErr result (λ e. IfFault e (λ _. self.new.faults ≡ one_more self.old.faults)) }
     {
         self.name = None;
         self.file = None;
-        let Ok(copy) = Text::copy(alloc, name) else {
-            return Err(BeginFault::Memory);
-        };
+        let copy = Text::copy(alloc, name)?;
         match fs::open(self.rt, name) {
             Ok(file) => {
                 self.file = Some(file);
@@ -82,7 +82,7 @@ impl<R: Files> Inputs for FileInputs<'_, R> {
             }
             Err(_) => {
                 self.faults = self.faults.saturating_add(1);
-                Err(BeginFault::Failed)
+                Err(Refusal::Fault(Failed))
             }
         }
     }

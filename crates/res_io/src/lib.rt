@@ -13,7 +13,7 @@ mod sure;
 
 pub use edge::{FileInputs, OutSink};
 pub use gate::{Gate, NoGate};
-pub use inputs::{BeginFault, Inputs, MOST_BYTES, ReadFault, read_all};
+pub use inputs::{Inputs, MOST_BYTES, ReadFault, read_all};
 pub use mem_inputs::MemInputs;
 pub use mem_sink::MemSink;
 pub use memory::MemFile;

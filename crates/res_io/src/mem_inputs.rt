@@ -1,13 +1,15 @@
 //! Inputs in memory of which some calls fail.
-ghost use Rattle.std.specs.Prelude.{◌≡◌, ◌≢◌, Option, Some, None, [], ℕ, ◌<◌, ◌≤◌, ◌+◌, ◌-◌, ◌^◌, ◌↔◌, true, false, min, take, drop, length, vec_len, slice_index, unwrap_or, IfOk, IfSome, OnOk, OnErr, IsErr, IsErrOf, IsSome, IsTrue};
+ghost use Rattle.std.specs.Prelude.{◌≡◌, ◌≢◌, Option, Some, None, [], ℕ, ◌<◌, ◌≤◌, ◌+◌, ◌-◌, ◌^◌, ◌↔◌, true, false, min, take, drop, length, vec_len, slice_index, unwrap_or, IfOk, IfErr, IfSome, OnOk, OnErr, IsErr, IsErrOf, IsSome, IsTrue};
+ghost use Rattle.refusal.specs.Refusals.{IfFault};
 ghost use Rattle.res_io.specs.Calls.{one_more, is_listed};
 ghost use Rattle.res_io.specs.Causes.{Rose, NoneFell};
 ghost use Rattle.res_io.specs.Files.{bytes_in, count_at};
 
-use crate::inputs::{BeginFault, Inputs};
+use crate::inputs::Inputs;
 use crate::memory::MemFile;
 use crate::shelf::Shelf;
 use crate::sink::Failed;
+use refusal::Refusal;
 use res_base::OutOfMemory;
 use std::alloc::Global;
 use std::marker::Model;
@@ -111,35 +113,33 @@ impl Inputs for MemInputs {
 
     ghost faults = { faults_of };
 
-    fn begin(&mut self, alloc: Global, name: &str) -> Result<(), BeginFault>
+    fn begin(&mut self, alloc: Global, name: &str) -> Result<(), Refusal<Failed>>
         ensures ok { OnOk result (self.new.shelf ≡ record { files = self.old.shelf.files; name = Some name.now; rest = unwrap_or (bytes_in self.old.shelf.files name.now) []; taken = 0 }) }
         ensures err { OnErr result (self.new.shelf ≡ record self.old.shelf { name = None }) }
         ensures later { NoneFell (faults_of self.old) (faults_of self.new) }
-        ensures failed { IsErrOf result BeginFault.Failed
-            → Rose (faults_of self.old name.now) (faults_of self.new name.now) }
+        ensures failed { IfErr result (λ e. IfFault e
+            (λ _. Rose (faults_of self.old name.now) (faults_of self.new name.now))) }
 
-        // Want of memory aside, it fails exactly at a listed call and at an unknown name, and counts that fault alone.
-        ensures fails { IsErrOf result BeginFault.Failed → begin_fails self.old name.now ≡ true }
+        // Out of memory aside, it fails exactly at a listed call and at an unknown name, and counts that fault alone.
+        ensures fails { IfErr result (λ e. IfFault e (λ _. begin_fails self.old name.now ≡ true)) }
         ensures opens { OnOk result (begin_fails self.old name.now ≡ false) }
         ensures none { OnOk result (NoneCounted self.old self.new) }
-        ensures memory { IsErrOf result BeginFault.Memory → NoneCounted self.old self.new }
-        ensures one { IsErrOf result BeginFault.Failed → OneCounted name.now self.old self.new }
+        ensures memory { IsErrOf result Refusal.OutOfMemory → NoneCounted self.old self.new }
+        ensures one { IfErr result (λ e. IfFault e (λ _. OneCounted name.now self.old self.new)) }
         ensures calls { IsOneCallOn self.old self.new }
     {
         let fails = is_to_fail(&mut self.calls, self.failing.as_slice());
         self.shelf.close();
-        if fill(&mut self.counts, self.shelf.len()).is_err() {
-            return Err(BeginFault::Memory);
-        }
+        fill(&mut self.counts, self.shelf.len())?;
         let place = self.shelf.find(name);
         match place {
-            Some(i) if !fails => match self.shelf.open(alloc, name, i) {
-                Ok(()) => Ok(()),
-                Err(OutOfMemory) => Err(BeginFault::Memory),
-            },
+            Some(i) if !fails => {
+                self.shelf.open(alloc, name, i)?;
+                Ok(())
+            }
             _ => {
                 raise(&mut self.counts, &mut self.others, place);
-                Err(BeginFault::Failed)
+                Err(Refusal::Fault(Failed))
             }
         }
     }

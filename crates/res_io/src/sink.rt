@@ -25,10 +25,10 @@ pub trait Sink {
         ensures failed { OnErr result (Rose (faults self.old) (faults self.new)) };
 }
 
-/// Writes the whole text. After a refusal a front of it stands written.
+/// Writes the whole text. After a refusal a prefix of it stands written.
 pub fn write_all<K: Sink>(out: &mut K, text: &[u8]) -> Result<(), Failed>
     ensures ok { OnOk result (Appends (K.written out.old) (K.written out.new) text.now) }
-    ensures front { (n : ℕ) × Appends (K.written out.old) (K.written out.new) (take n text.now) }
+    ensures prefix { (n : ℕ) × Appends (K.written out.old) (K.written out.new) (take n text.now) }
     ensures told { is_some (K.written out.new) ≡ is_some (K.written out.old) }
     ensures later { K.faults out.old ≤ K.faults out.new }
     ensures failed { OnErr result (Rose (K.faults out.old) (K.faults out.new)) }

@@ -1,12 +1,13 @@
 //! Inputs and a sink that never fail.
-ghost use Rattle.std.specs.Prelude.{◌≡◌, ◌≢◌, ◌+◌, ◌-◌, ◌^◌, min, Some, None, [], take, drop, length, unwrap_or, OnOk, OnErr, IfOk};
+ghost use Rattle.std.specs.Prelude.{◌≡◌, ◌+◌, ◌-◌, ◌^◌, min, Some, None, [], take, drop, length, unwrap_or, OnOk, OnErr, IfOk, IfErr};
+ghost use Rattle.refusal.specs.Refusals.{IfFault};
 ghost use Rattle.res_io.specs.Files.{bytes_in};
 
-use crate::inputs::{BeginFault, Inputs};
+use crate::inputs::Inputs;
 use crate::memory::MemFile;
 use crate::shelf::Shelf;
 use crate::sink::{Failed, Sink};
-use res_base::OutOfMemory;
+use refusal::Refusal;
 use std::alloc::Global;
 use std::marker::Model;
 
@@ -50,17 +51,15 @@ impl Inputs for SureInputs {
 
     ghost faults = { λ _ _. 0 };
 
-    fn begin(&mut self, alloc: Global, name: &str) -> Result<(), BeginFault>
+    fn begin(&mut self, alloc: Global, name: &str) -> Result<(), Refusal<Failed>>
         ensures ok { OnOk result (self.new ≡ record { files = self.old.files; name = Some name.now; rest = unwrap_or (bytes_in self.old.files name.now) []; taken = 0 }) }
         ensures err { OnErr result (self.new ≡ record self.old { name = None }) }
-        ensures sure { result ≢ Err BeginFault.Failed }
+        ensures sure { IfErr result (λ e. IfFault e (λ _. ⊥)) }
     {
         let beyond = self.shelf.len();
         let place = self.shelf.find(name).unwrap_or(beyond);
-        match self.shelf.open(alloc, name, place) {
-            Ok(()) => Ok(()),
-            Err(OutOfMemory) => Err(BeginFault::Memory),
-        }
+        self.shelf.open(alloc, name, place)?;
+        Ok(())
     }
 
     fn take(&mut self, buf: &mut [u8]) -> Result<usize, Failed>
