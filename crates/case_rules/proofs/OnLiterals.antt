@@ -5,7 +5,8 @@ use Rattle.big_case.specs.Case as made
 use Rattle.big_case.specs.Rest as made_rest
 use Rattle.case_rules.specs.CaseProject as project
 use Rattle.case_rules.specs.CaseTable as table
-use Rattle.mcu_tables.specs.Json as json
+use Rattle.table_members.specs.Forms as forms
+use Rattle.table_members.specs.Json as json
 use Rattle.ioc_text.specs.Lines as lines
 use Rattle.res_model.specs.Numbers as numbers
 use Rattle.ioc_project.specs.Project as project_reader
@@ -41,7 +42,7 @@ project_on_literals = tt
 
 -- the reader of tables, from a JSON value on
 unfoldable pub table_reader_on_literals : ⊤
-unfolding digits json.inside json.entries json.two json.is_word json.word table_reader.text table_reader.flag table_reader.object table_reader.object_if_there table_reader.number_within table_reader.number_among table_reader.pair_within table_reader.counted table_reader.list table_reader.any_text table_reader.distinct_text table_reader.above table_reader.next_among table_reader.some_among table_reader.one_among pin_names.pin_number pin_names.spot table_reader.pin pin_names.place table_reader.role_of table_reader.use_form table_reader.pin_named table_reader.alt_row table_reader.pin_row table_reader.no_rows table_reader.rows table_reader.real_name table_reader.signal_name table_reader.some_text table_reader.signal table_reader.need48_of table_reader.clock48_form table_reader.ip_name table_reader.ip table_reader.steps table_reader.clock table_reader.limits table_reader.over_form table_reader.some_over table_reader.over table_reader.all_limits table_reader.scale table_reader.flash_from table_reader.flash_to table_reader.flash_range table_reader.source_of table_reader.pll_source_of table_reader.source_form table_reader.pll_source_form table_reader.default_sources table_reader.default_factors table_reader.default_buses table_reader.defaults power.speeds_at table_reader.reset_fault table_reader.legal table_reader.hse_names table_reader.supply table_reader.table
+unfolding digits json.inside json.entries json.two json.is_word json.word forms.text forms.flag forms.object forms.object_if_there forms.number_within forms.number_among forms.pair_within forms.counted forms.list forms.any_text forms.distinct_text forms.above forms.next_among forms.some_among forms.one_among pin_names.pin_number pin_names.spot table_reader.pin pin_names.place table_reader.role_of table_reader.use_form table_reader.pin_named table_reader.alt_row table_reader.pin_row table_reader.no_rows table_reader.rows table_reader.real_name table_reader.signal_name table_reader.some_text table_reader.signal table_reader.need48_of table_reader.clock48_form table_reader.ip_name table_reader.ip table_reader.steps table_reader.clock table_reader.limits table_reader.over_form table_reader.some_over table_reader.over table_reader.all_limits table_reader.scale table_reader.flash_from table_reader.flash_to table_reader.flash_range table_reader.source_of table_reader.pll_source_of table_reader.source_form table_reader.pll_source_form table_reader.default_sources table_reader.default_factors table_reader.default_buses table_reader.defaults power.speeds_at table_reader.reset_fault table_reader.legal table_reader.hse_names table_reader.supply table_reader.table
 table_reader_on_literals = tt
 
 -- the reader of lines

@@ -7,10 +7,11 @@ use Rattle.case_rules.specs.CaseTable.{case_table, table_for}
 use Rattle.case_rules.proofs.OnLiterals.{table_text_on_literals, table_on_literals, table_reader_on_literals}
 use Rattle.json.proofs.Printed.Utf8.{are_ascii, IsUtf8-are_ascii}
 use Rattle.res_base.proofs.SumLemmas.{split}
-use Rattle.mcu_tables.specs.Json.{json_of}
+use Rattle.table_members.specs.Json.{json_of}
 use Rattle.res_model.specs.Steps.{◌>>=◌}
-use Rattle.mcu_tables.specs.Table.{due, table, tables_of}
-use Rattle.mcu_tables.specs.declared.fault.TableFault.TheVariants.{NotJson}
+use Rattle.table_members.specs.Forms.{due}
+use Rattle.mcu_tables.specs.Table.{table, tables_of}
+use Rattle.table_members.specs.declared.fault.TableFault.TheVariants.{NotJson}
 use Rattle.serde_json.proofs.OnLiterals.{serde_json_on_literals}
 use Rattle.serde_json.specs.Read.{read}
 

@@ -9,11 +9,10 @@ use Rattle.res_base.proofs.ListLemmas.{each_map}
 use Rattle.res_model.specs.Steps.{◌>>=◌}
 use Rattle.res_model.specs.Valid.{IsText}
 use Rattle.res_model.proofs.PlaceLaws.{differ}
-use Rattle.mcu_tables.specs.Json.{json_of}
-use Rattle.mcu_tables.specs.Table.{below, due, fresh, list, member, need, number_within, object, text, top}
-use Rattle.mcu_tables.specs.declared.fault.TableFault.TheVariants.{BadField, NotJson}
-use Rattle.mcu_tables.proofs.PinLaws.{AreKept, one_more}
-use Rattle.mcu_tables.proofs.TableLaws.{Kept, bound, fresh_new, list_keeps, need_keeps, none_passes, number_keeps, same_ok, text_keeps}
+use Rattle.table_members.specs.Json.{json_of}
+use Rattle.table_members.specs.Forms.{below, due, fresh, list, member, need, number_within, object, text, top}
+use Rattle.table_members.specs.declared.fault.TableFault.TheVariants.{BadField, NotJson}
+use Rattle.table_members.proofs.FormLaws.{AreKept, one_more, Kept, bound, fresh_new, list_keeps, need_keeps, none_passes, number_keeps, same_ok, text_keeps}
 use Rattle.serde_json.specs.Data.{Data}
 use Rattle.serde_json.specs.Find.{get}
 use Rattle.dma_table.specs.Reading.{dma_of, is_same_row, new_row, request, request_name, requests, row, three}

@@ -2,10 +2,10 @@
 use Rattle.std.specs.Prelude.{ℕ, ◌==◌, ◌&&◌, List, codes, Bool, Option, Some, option_and_then, Result, Ok}
 use Rattle.std.specs.List.{list_any}
 use Rattle.std.specs.Str.{bytes_eq}
-use Rattle.mcu_tables.specs.Json.{and_no_more, json_of}
-use Rattle.mcu_tables.specs.Table.{EntryForm, Form, due, fresh, list, member, number_within, object, text, top}
-use Rattle.mcu_tables.specs.declared.fault.TableFault.{TableFault}
-use Rattle.mcu_tables.specs.declared.fault.TableFault.TheVariants.{BadField, NotJson}
+use Rattle.table_members.specs.Json.{and_no_more, json_of}
+use Rattle.table_members.specs.Forms.{EntryForm, Form, due, fresh, list, member, number_within, object, text, top}
+use Rattle.table_members.specs.declared.fault.TableFault.{TableFault}
+use Rattle.table_members.specs.declared.fault.TableFault.TheVariants.{BadField, NotJson}
 use Rattle.res_model.specs.Steps.{◌>>=◌}
 use Rattle.serde_json.specs.Data.{Data}
 use Rattle.serde_json.specs.Find.{at}

@@ -2,19 +2,19 @@
 ghost use Rattle.std.specs.Prelude.{◌≡◌, ◌==◌, [], map, option_map};
 ghost use Rattle.std.specs.List.{list_any};
 ghost use Rattle.std.specs.Str.{bytes_eq};
-ghost use Rattle.mcu_tables.specs.Places.{Reads, entry_path, path_of, spelled};
-ghost use Rattle.mcu_tables.specs.Table.{entries_after, list};
+ghost use Rattle.table_members.specs.Places.{Reads, entry_path, path_of, spelled};
+ghost use Rattle.table_members.specs.Forms.{entries_after, list};
 ghost use Rattle.serde_json.specs.View.{view};
 ghost use Rattle.dma_table.specs.Reading.{is_same_row, new_row, request, request_name, row, three};
 
 use dma_model::{DmaRequest, DmaRow};
-use mcu_tables::{
-    Flaw, Key, Place, Spot, check_object, counted_at, member_of, needed, number_at, text_at,
-};
 use refusal::Refusal;
 use res_base::{Items, Text};
 use serde_json::Value;
 use std::alloc::Global;
+use table_members::{
+    Flaw, Key, Place, Spot, check_object, counted_at, member_of, needed, number_at, text_at,
+};
 
 /// The entries of a list of three.
 #[tactic(auto, unfolding(crate::specs::Reading::three))]
@@ -88,7 +88,7 @@ fn each_row(alloc: Global, at: Spot, values: &[Value]) -> Result<Vec<DmaRow>, Re
 }
 
 /// The rows of a request.
-#[tactic(auto, unfolding(mcu_tables::specs::Table::list))]
+#[tactic(auto, unfolding(table_members::specs::Forms::list))]
 fn rows_of(alloc: Global, at: Spot, value: &Value) -> Result<Items<DmaRow>, Refusal<Flaw>>
     ensures { Reads (λ v. v) result (list 1 8 row (path_of at) (view value.now)) }
 {
@@ -150,7 +150,7 @@ fn each_request(alloc: Global, values: &[Value]) -> Result<Vec<DmaRequest>, Refu
 }
 
 /// The requests of the list.
-#[tactic(auto, unfolding(mcu_tables::specs::Table::list))]
+#[tactic(auto, unfolding(table_members::specs::Forms::list))]
 pub(crate) fn requests_of(alloc: Global, value: &Value) -> Result<Items<DmaRequest>, Refusal<Flaw>>
     ensures { Reads (λ v. v) result (list 0 200 request (path_of (Spot.Top Key.Dma)) (view value.now)) }
 {

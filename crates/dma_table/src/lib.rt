@@ -4,5 +4,5 @@
 mod entries;
 mod read;
 
-pub use mcu_tables::TableFault;
 pub use read::read_dma;
+pub use table_members::TableFault;

@@ -1,16 +1,16 @@
 //! The list of requests, from the bytes of a table.
-ghost use Rattle.mcu_tables.specs.Places.{Reads};
+ghost use Rattle.table_members.specs.Places.{Reads};
 ghost use Rattle.refusal.specs.Refusals.{Gives};
 ghost use Rattle.serde_json.specs.View.{view};
 ghost use Rattle.dma_table.specs.Reading.{dma_of, requests};
 
 use crate::entries::requests_of;
 use dma_model::{DmaRequest, DmaTable};
-use mcu_tables::{Flaw, Key, Spot, TableFault, member_of, needed, spelled_fault, value_of};
 use refusal::Refusal;
 use res_base::Items;
 use serde_json::Value;
 use std::alloc::Global;
+use table_members::{Flaw, Key, Spot, TableFault, member_of, needed, spelled_fault, value_of};
 
 /// The member `dma` of a table.
 #[tactic(auto, unfolding(crate::specs::Reading::requests))]

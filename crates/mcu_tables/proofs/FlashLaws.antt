@@ -5,16 +5,16 @@ use Rattle.std.specs.Str.{bytes_eq}
 use Rattle.std.proofs.Math.Seq.{take-suc}
 use Rattle.res_base.specs.Lists.{Each, Member, Pairwise}
 use Rattle.res_base.proofs.ListLemmas.{each_push, each_map}
-use Rattle.mcu_tables.specs.Json.{number}
+use Rattle.table_members.specs.Json.{number}
 use Rattle.res_model.specs.ClockValues.{widest_hclk}
-use Rattle.mcu_tables.specs.Table.{below, due, member, nested, object, object_if_there, flag, list, number_within, number_among, above, is_above_last, is_after, flash_from, flash_to, flash_range, scale, scales, source_of, pll_source_of, source_form, pll_source_form, default_sources, default_factors, default_buses, defaults}
+use Rattle.table_members.specs.Forms.{below, due, member, nested, object, object_if_there, flag, list, number_within, number_among, above, is_above_last}
+use Rattle.mcu_tables.specs.Table.{is_after, flash_from, flash_to, flash_range, scale, scales, source_of, pll_source_of, source_form, pll_source_form, default_sources, default_factors, default_buses, defaults}
 use Rattle.res_model.specs.Valid.{IsWithin, AreDefaults}
-use Rattle.mcu_tables.proofs.TableLaws.{bound, same_ok, due_some, must_holds, need_keeps, number_keeps, among_keeps, Kept, list_keeps}
-use Rattle.mcu_tables.proofs.PinLaws.{AreKept, one_more}
-use Rattle.mcu_tables.proofs.ClockLaws.{final, last_is, above_each, Any, Ascend, above_keeps, nested_keeps}
+use Rattle.table_members.proofs.FormLaws.{bound, same_ok, due_some, must_holds, need_keeps, number_keeps, among_keeps, Kept, list_keeps, AreKept, one_more, nested_keeps}
+use Rattle.table_members.proofs.ListLaws.{final, last_is, above_each, Any, Ascend, above_keeps}
 use Rattle.serde_json.specs.Data.{Data}
 use Rattle.serde_json.specs.Find.{get, as_str}
-use Rattle.mcu_tables.specs.declared.fault.TableFault.TheVariants.{BadField}
+use Rattle.table_members.specs.declared.fault.TableFault.TheVariants.{BadField}
 use Rattle.res_model.specs.declared.table.Domains.{Domains}
 use Rattle.res_model.specs.declared.table.Scale.{Scale}
 use Rattle.res_model.specs.declared.table.FlashRange.{FlashRange}

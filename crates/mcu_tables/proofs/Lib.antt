@@ -1,11 +1,8 @@
 pub mod ClockLaws
-pub mod EntryLemmas
 pub mod FlashLaws
-pub mod JsonLemmas
 pub mod PinLaws
 pub mod ReadLemmas
 pub mod ScaleLemmas
 pub mod SeenLemmas
 pub mod SignalLaws
-pub mod TableLaws
 pub mod TableValid

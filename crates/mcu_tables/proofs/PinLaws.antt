@@ -4,24 +4,16 @@ use Rattle.std.specs.Prelude.{nat_le, ◌==◌, option_and_then, if◌then◌els
 use Rattle.std.specs.List.{list_any}
 use Rattle.std.specs.Str.{bytes_eq}
 use Rattle.std.proofs.lemmas.Grind.{common_steps}
-use Rattle.res_base.specs.Lists.{Each, Pairwise}
-use Rattle.res_base.proofs.ListLemmas.{each_push, each_map, pairs_push}
+use Rattle.res_base.proofs.ListLemmas.{each_map}
 use Rattle.res_model.specs.PinNames.{pin_number, ten_and, is_digit, begins_with_digit, spot}
-use Rattle.mcu_tables.specs.Table.{due, text, list, is_same_pin, pin}
+use Rattle.table_members.specs.Forms.{due, text, list}
+use Rattle.mcu_tables.specs.Table.{is_same_pin, pin}
 use Rattle.res_model.specs.Valid.{IsPin, AreTwoPins, ArePins}
 use Rattle.res_model.proofs.PlaceLaws.{differ}
-use Rattle.mcu_tables.proofs.TableLaws.{bound, due_some, fresh_new, both, neither, between, none_passes, text_keeps, list_keeps}
+use Rattle.table_members.proofs.FormLaws.{bound, due_some, fresh_new, both, neither, between, none_passes, text_keeps, list_keeps}
 use Rattle.serde_json.specs.Data.{Data}
-use Rattle.mcu_tables.specs.declared.fault.TableFault.TheVariants.{BadField}
+use Rattle.table_members.specs.declared.fault.TableFault.TheVariants.{BadField}
 use Rattle.res_model.specs.declared.table.Pin.{Pin}
-
--- each keeps P, and any two keep R
-abbrev pub AreKept : {X : Type 0} → (X → Type 0) → (X → X → Type 0) → List X → Type 0
-AreKept P R xs = Each P xs × Pairwise R xs
-
--- one more
-pub one_more : {X : Type 0} (P : X → Type 0) (R : X → X → Type 0) (xs : List X) (x : X) → AreKept P R xs → P x → Each (λ y. R y x) xs → AreKept P R (xs ++ x ∷ [])
-one_more P R xs x h p r = (each_push P xs x h.0 p, pairs_push R xs x h.1 r)
 
 -- ---- pins
 

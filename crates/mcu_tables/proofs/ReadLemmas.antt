@@ -2,13 +2,14 @@
 use Rattle.std.proofs.Common.{◌≡◌, ℕ, List, Option, Result, Ok, Err, ap, sym, subst, ◌∙◌}
 use Rattle.std.specs.Prelude.{codes}
 use Rattle.res_model.specs.Steps.{◌>>=◌}
-use Rattle.mcu_tables.specs.Table.{top, number_within, list, distinct_text, text, pin, signal, hse_names, ip, clock, all_limits, supply, defaults, legal, table}
+use Rattle.table_members.specs.Forms.{top, number_within, list, distinct_text, text}
+use Rattle.mcu_tables.specs.Table.{pin, signal, hse_names, ip, clock, all_limits, supply, defaults, legal, table}
 use Rattle.serde_json.specs.Data.{Data}
-use Rattle.mcu_tables.specs.Places.{Reads}
-use Rattle.mcu_tables.specs.declared.place.Flaw.{Flaw}
+use Rattle.table_members.specs.Places.{Reads}
+use Rattle.table_members.specs.declared.place.Flaw.{Flaw}
 use Rattle.refusal.specs.declared.refusal.Refusal.{Refusal}
 use Rattle.refusal.specs.declared.refusal.Refusal.TheVariants.{Fault, OutOfMemory}
-use Rattle.mcu_tables.specs.declared.fault.TableFault.{TableFault}
+use Rattle.table_members.specs.declared.fault.TableFault.{TableFault}
 use Rattle.res_model.specs.declared.table.Pin.{Pin}
 use Rattle.res_model.specs.declared.table.TableSignal.{TableSignal}
 use Rattle.res_model.specs.declared.table.Ip.{Ip}

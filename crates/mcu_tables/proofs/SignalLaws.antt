@@ -7,16 +7,17 @@ use Rattle.std.proofs.lemmas.Grind.{common_steps}
 use Rattle.std.proofs.lemmas.List.Quantifiers.{position-Some}
 use Rattle.res_base.specs.Lists.{Each}
 use Rattle.res_base.proofs.ListLemmas.{each_push, each_map}
-use Rattle.mcu_tables.specs.Json.{word, two}
+use Rattle.table_members.specs.Json.{word, two}
 use Rattle.res_model.specs.PinNames.{place}
-use Rattle.mcu_tables.specs.Table.{below, due, may, member, optional, text, object, flag, number_within, list, any_text, use_form, pin_named, row, alt_row, pin_row, no_rows, rows, real_name, signal_name, some_text, signal, clock48_form, ip_name, ip}
+use Rattle.table_members.specs.Forms.{below, due, may, member, optional, text, object, flag, number_within, list, any_text}
+use Rattle.mcu_tables.specs.Table.{use_form, pin_named, row, alt_row, pin_row, no_rows, rows, real_name, signal_name, some_text, signal, clock48_form, ip_name, ip}
 use Rattle.res_model.specs.Valid.{IsText, IsModeOf, HasRowsDue, AreRows, IsSignal, AreSignals, IsIp, AreIps}
 use Rattle.res_model.proofs.PlaceLaws.{differ}
-use Rattle.mcu_tables.proofs.TableLaws.{bound, same_ok, due_some, must_holds, fresh_new, need_keeps, may_keeps, none_passes, text_keeps, number_keeps, Kept, list_keeps}
-use Rattle.mcu_tables.proofs.PinLaws.{AreKept, one_more, not_true}
+use Rattle.table_members.proofs.FormLaws.{bound, same_ok, due_some, must_holds, fresh_new, need_keeps, may_keeps, none_passes, text_keeps, number_keeps, Kept, list_keeps, AreKept, one_more}
+use Rattle.mcu_tables.proofs.PinLaws.{not_true}
 use Rattle.serde_json.specs.Data.{Data}
 use Rattle.serde_json.specs.Find.{get}
-use Rattle.mcu_tables.specs.declared.fault.TableFault.TheVariants.{BadField}
+use Rattle.table_members.specs.declared.fault.TableFault.TheVariants.{BadField}
 use Rattle.res_model.specs.declared.table.Pin.{Pin}
 use Rattle.res_model.specs.declared.table.Role.{Role}
 use Rattle.res_model.specs.declared.table.Role.TheVariants as role

@@ -5,22 +5,24 @@ use Rattle.std.specs.List.{list_any}
 use Rattle.std.proofs.lemmas.Bool.Decides.{nat_tests}
 use Rattle.res_base.specs.Lists.{Each}
 use Rattle.res_base.proofs.ListLemmas.{each_map}
-use Rattle.mcu_tables.specs.Json.{json_of}
+use Rattle.table_members.specs.Json.{json_of}
 use Rattle.res_model.specs.ClockValues.{hsi}
 use Rattle.res_model.specs.Power.{over_speeds, plain_speeds, speeds_at}
 use Rattle.res_model.specs.declared.limit.Limit.{Limit}
 use Rattle.res_model.specs.declared.limit.Limit.TheVariants as the_limit
-use Rattle.mcu_tables.specs.Table.{below, due, top, text, number_within, list, distinct_text, pin, signal, ip, clock, all_limits, scales, flash_range, defaults, is_low, reset_fault, unless_illegal, legal, hse_names, supply, table, tables_of}
+use Rattle.table_members.specs.Forms.{below, due, top, text, number_within, list, distinct_text}
+use Rattle.mcu_tables.specs.Table.{pin, signal, ip, clock, all_limits, scales, flash_range, defaults, is_low, reset_fault, unless_illegal, legal, hse_names, supply, table, tables_of}
 use Rattle.res_model.specs.Valid.{IsText, ArePins, AreSignals, AreIps, AreBounds, AreSpeeds, HasOver, AreScales, IsFlashRange, AreFlash, IsValid}
-use Rattle.mcu_tables.proofs.TableLaws.{bound, same_ok, need_keeps, none_passes, neither, text_keeps, number_keeps, Kept, list_keeps}
-use Rattle.mcu_tables.proofs.PinLaws.{AreKept, pins_keep}
+use Rattle.table_members.proofs.FormLaws.{bound, same_ok, need_keeps, none_passes, neither, text_keeps, number_keeps, Kept, list_keeps, AreKept}
+use Rattle.mcu_tables.proofs.PinLaws.{pins_keep}
 use Rattle.mcu_tables.proofs.SignalLaws.{signals_keep, ips_keep}
-use Rattle.mcu_tables.proofs.ClockLaws.{DifferTexts, distinct_keeps, clock_keeps, AreRead, AreReadSpeeds, HasRead, all_limits_keep}
+use Rattle.table_members.proofs.ListLaws.{DifferTexts, distinct_keeps}
+use Rattle.mcu_tables.proofs.ClockLaws.{clock_keeps, AreRead, AreReadSpeeds, HasRead, all_limits_keep}
 use Rattle.mcu_tables.proofs.FlashLaws.{IsMax, AreReadScales, scales_keep, IsReadRange, IsBelow, flash_keeps, defaults_keep}
 use Rattle.serde_json.specs.Data.{Data}
 use Rattle.serde_json.specs.Find.{get}
-use Rattle.mcu_tables.specs.declared.fault.TableFault.{TableFault}
-use Rattle.mcu_tables.specs.declared.fault.TableFault.TheVariants.{NotJson}
+use Rattle.table_members.specs.declared.fault.TableFault.{TableFault}
+use Rattle.table_members.specs.declared.fault.TableFault.TheVariants.{NotJson}
 use Rattle.res_model.specs.declared.table.Bounds.{Bounds}
 use Rattle.res_model.specs.declared.table.Scale.{Scale}
 use Rattle.res_model.specs.declared.table.FlashRange.{FlashRange}

@@ -2,19 +2,20 @@
 ghost use Rattle.std.specs.Prelude.{◌≡◌, ◌≤◌, ◌<◌, ◌==◌, List, [], ◌∷◌, codes, map, length, option_map, IfOk};
 ghost use Rattle.std.specs.List.{list_any};
 ghost use Rattle.res_model.specs.ClockValues.{pll_dividers, ahb_dividers, apb_dividers, known_steps};
-ghost use Rattle.mcu_tables.specs.Table.{nested, member, pair_within, number_within, some_among, one_among, are_paired, steps, clock, limits, over_form, some_over, over, all_limits};
+ghost use Rattle.table_members.specs.Forms.{nested, member, pair_within, number_within, some_among, one_among};
+ghost use Rattle.mcu_tables.specs.Table.{are_paired, steps, clock, limits, over_form, some_over, over, all_limits};
 ghost use Rattle.serde_json.specs.View.{view};
-ghost use Rattle.mcu_tables.specs.Places.{spelling, path_of, Reads};
+ghost use Rattle.table_members.specs.Places.{spelling, path_of, Reads};
 
-use crate::forms::{check_object, number_at, pair_at};
-use crate::json::{member_of, needed, nested};
-use crate::lists::{one_among, some_among};
-use crate::place::{Flaw, Key, Place, Spot};
 use refusal::Refusal;
 use res_base::Items;
 use res_model::{Bounds, Domains, Over};
 use serde_json::Value;
 use std::alloc::Global;
+use table_members::{
+    Flaw, Key, Place, Spot, check_object, member_of, needed, nested, number_at, one_among, pair_at,
+    some_among,
+};
 
 /// The dividers of AHB, those of APB1 and APB2 (RM0090, RCC_CFGR), those of the PLL's output
 /// (RCC_PLLCFGR), and the power steps of parts without over-drive and of parts with it (PWR_CR).

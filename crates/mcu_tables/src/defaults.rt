@@ -1,17 +1,16 @@
 //! The homes of the clock variables, where a project gives none.
 ghost use Rattle.std.specs.Prelude.{◌≡◌, ◌≤◌, ◌<◌, List, [], ◌∷◌, codes, map, length, option_map, option_and_then, IfOk};
 ghost use Rattle.std.specs.Str.{bytes_eq};
-ghost use Rattle.mcu_tables.specs.Table.{nested, object_if_there, below, number_within, number_among, source_of, pll_source_of, source_form, pll_source_form, default_sources, default_factors, default_buses, defaults};
+ghost use Rattle.table_members.specs.Forms.{nested, object_if_there, below, number_within, number_among};
+ghost use Rattle.mcu_tables.specs.Table.{source_of, pll_source_of, source_form, pll_source_form, default_sources, default_factors, default_buses, defaults};
 ghost use Rattle.serde_json.specs.Find.{get};
 ghost use Rattle.serde_json.specs.View.{view};
-ghost use Rattle.mcu_tables.specs.Places.{spelling, spelled, path_of, Reads};
+ghost use Rattle.table_members.specs.Places.{spelling, spelled, path_of, Reads};
 
-use crate::forms::{among_at, number_at};
-use crate::json::{member_of, nested};
-use crate::place::{Flaw, Key, Place, Spot};
 use refusal::Refusal;
 use res_model::Domains;
 use serde_json::Value;
+use table_members::{Flaw, Key, Place, Spot, among_at, member_of, nested, number_at};
 
 #[tactic(auto, unfolding(crate::specs::Table::source_of))]
 fn source_of(word: &str) -> Option<u64>
@@ -91,7 +90,7 @@ fn within(root: &Value, key: Key, low: u64, high: u64) -> Result<u64, Refusal<Fl
     )
 }
 
-#[tactic(auto, unfolding(crate::specs::Table::object_if_there))]
+#[tactic(auto, unfolding(table_members::specs::Forms::object_if_there))]
 fn check_defaults(root: &Value) -> Result<(), Refusal<Flaw>>
     ensures { Reads (λ u. u) result (object_if_there (path_of (Spot.Top Key.Defaults)) (get (spelling Key.Defaults) (view root.now))) }
 {

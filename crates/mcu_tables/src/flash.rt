@@ -1,18 +1,19 @@
 //! The flash ranges of a table.
 ghost use Rattle.std.specs.Prelude.{◌≡◌, ◌≤◌, ◌<◌, ◌==◌, ◌-◌, List, [], ◌∷◌, Some, None, false, map, length, option_map, option_copied, option_and_then, slice_get, slice_index, IfOk, IfSome};
-ghost use Rattle.mcu_tables.specs.Table.{counted, list, entries_after, is_after, flash_from, flash_to, flash_range, scale, scales, number_within, above, flag, need};
+ghost use Rattle.table_members.specs.Forms.{counted, list, entries_after, number_within, above, flag, need};
+ghost use Rattle.mcu_tables.specs.Table.{is_after, flash_from, flash_to, flash_range, scale, scales};
 ghost use Rattle.serde_json.specs.View.{view};
-ghost use Rattle.mcu_tables.specs.Places.{spelled, path_of, entry_path, Reads};
+ghost use Rattle.table_members.specs.Places.{spelled, path_of, entry_path, Reads};
 
-use crate::forms::{check_object, flag_at};
-use crate::json::{member_of, needed, number_of};
-use crate::lists::{ascending, counted_at};
-use crate::place::{Flaw, Key, Place, Spot};
 use refusal::Refusal;
 use res_base::Items;
 use res_model::FlashRange;
 use serde_json::Value;
 use std::alloc::Global;
+use table_members::{
+    Flaw, Key, Place, Spot, ascending, check_object, counted_at, flag_at, member_of, needed,
+    number_of,
+};
 
 fn is_after(before: &[FlashRange], n: u64) -> bool
     ensures { result ≡ is_after before.now n }
@@ -100,7 +101,7 @@ fn each_range(alloc: Global, values: &[Value]) -> Result<Vec<FlashRange>, Refusa
 }
 
 /// The flash ranges of the table.
-#[tactic(auto, unfolding(crate::specs::Table::list))]
+#[tactic(auto, unfolding(table_members::specs::Forms::list))]
 pub fn flash_of(alloc: Global, value: &Value) -> Result<Items<FlashRange>, Refusal<Flaw>>
     ensures { Reads (λ v. v) result (list 0 16 flash_range (path_of (Spot.Top Key.Flash)) (view value.now)) }
 {

@@ -2,19 +2,19 @@
 ghost use Rattle.std.specs.Prelude.{◌≡◌, ◌≤◌, ◌<◌, ◌==◌, List, [], ◌∷◌, Some, None, false, map, length, option_map, option_and_then, IfOk, IfSome};
 ghost use Rattle.std.specs.List.{list_any};
 ghost use Rattle.std.specs.Str.{bytes_eq};
-ghost use Rattle.mcu_tables.specs.Table.{counted, list, entries_after, need48_of, clock48_form, ip_name, ip, any_text, number_within, may, need};
+ghost use Rattle.table_members.specs.Forms.{counted, list, entries_after, any_text, number_within, may, need};
+ghost use Rattle.mcu_tables.specs.Table.{need48_of, clock48_form, ip_name, ip};
 ghost use Rattle.serde_json.specs.View.{view};
-ghost use Rattle.mcu_tables.specs.Places.{spelled, path_of, entry_path, Reads};
+ghost use Rattle.table_members.specs.Places.{spelled, path_of, entry_path, Reads};
 
-use crate::forms::{check_object, number_at, text_at};
-use crate::json::{member_of, needed};
-use crate::lists::{counted_at, texts};
-use crate::place::{Flaw, Key, Place, Spot};
 use refusal::Refusal;
 use res_base::{Items, Text};
 use res_model::{Ip, Need48};
 use serde_json::Value;
 use std::alloc::Global;
+use table_members::{
+    Flaw, Key, Place, Spot, check_object, counted_at, member_of, needed, number_at, text_at, texts,
+};
 
 #[tactic(auto, unfolding(crate::specs::Table::need48_of))]
 fn need48_of(word: &str) -> Option<Need48>
@@ -126,7 +126,7 @@ fn each_ip(alloc: Global, values: &[Value]) -> Result<Vec<Ip>, Refusal<Flaw>>
 }
 
 /// The IPs of the table.
-#[tactic(auto, unfolding(crate::specs::Table::list))]
+#[tactic(auto, unfolding(table_members::specs::Forms::list))]
 pub fn ips_of(alloc: Global, value: &Value) -> Result<Items<Ip>, Refusal<Flaw>>
     ensures { Reads (λ v. v) result (list 0 64 ip (path_of (Spot.Top Key.Ips)) (view value.now)) }
 {

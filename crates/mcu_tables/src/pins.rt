@@ -3,18 +3,17 @@ ghost use Rattle.std.specs.Prelude.{◌≡◌, ◌≤◌, ◌<◌, ◌==◌, Lis
 ghost use Rattle.std.specs.List.{list_any};
 ghost use Rattle.std.specs.Str.{bytes_eq};
 ghost use Rattle.res_model.specs.PinNames.{pin_number, ten_and, is_digit, begins_with_digit, spot, place};
-ghost use Rattle.mcu_tables.specs.Table.{counted, list, entries_after, pin, is_same_pin};
+ghost use Rattle.table_members.specs.Forms.{counted, list, entries_after};
+ghost use Rattle.mcu_tables.specs.Table.{pin, is_same_pin};
 ghost use Rattle.serde_json.specs.View.{view};
-ghost use Rattle.mcu_tables.specs.Places.{spelled, path_of, Reads};
+ghost use Rattle.table_members.specs.Places.{spelled, path_of, Reads};
 
-use crate::forms::text_at;
-use crate::lists::counted_at;
-use crate::place::{Flaw, Key, Place, Spot};
 use refusal::Refusal;
 use res_base::{Items, Text};
 use res_model::Pin;
 use serde_json::Value;
 use std::alloc::Global;
+use table_members::{Flaw, Key, Place, Spot, counted_at, text_at};
 
 fn begins_with_digit(text: &[u8]) -> bool
     ensures { result ≡ begins_with_digit text.now }
@@ -100,7 +99,7 @@ fn each_pin(alloc: Global, values: &[Value]) -> Result<Vec<Pin>, Refusal<Flaw>>
 }
 
 /// The pins of the table.
-#[tactic(auto, unfolding(crate::specs::Table::list))]
+#[tactic(auto, unfolding(table_members::specs::Forms::list))]
 pub fn pins_of(alloc: Global, value: &Value) -> Result<Items<Pin>, Refusal<Flaw>>
     ensures reads { Reads (λ v. v) result (list 0 144 pin (path_of (Spot.Top Key.Pins)) (view value.now)) }
     ensures few { IfOk result (λ v. length v ≤ 144) }

@@ -3,22 +3,18 @@ ghost use Rattle.std.specs.Prelude.{◌≡◌, ◌≤◌, ◌<◌, ℕ, List, co
 ghost use Rattle.res_base.specs.Lists.{Each};
 ghost use Rattle.refusal.specs.Refusals.{Gives};
 ghost use Rattle.res_model.specs.Valid.{IsValid};
-ghost use Rattle.mcu_tables.specs.declared.fault.TableFault.TheVariants as fault;
+ghost use Rattle.table_members.specs.declared.fault.TableFault.TheVariants as fault;
 ghost use Rattle.serde_json.specs.Find.{get};
-ghost use Rattle.mcu_tables.specs.Table.{due, top, number_within, list, distinct_text, text, pin, signal, ip, clock, all_limits, scales, flash_range, defaults, reset_fault, unless_illegal, legal, hse_names, supply, table, tables_of};
+ghost use Rattle.table_members.specs.Forms.{due, top, number_within, list, distinct_text, text};
+ghost use Rattle.mcu_tables.specs.Table.{pin, signal, ip, clock, all_limits, scales, flash_range, defaults, reset_fault, unless_illegal, legal, hse_names, supply, table, tables_of};
 ghost use Rattle.serde_json.specs.View.{view};
-ghost use Rattle.mcu_tables.specs.Places.{spelling, spelled, path_of, Reads};
+ghost use Rattle.table_members.specs.Places.{spelling, spelled, path_of, Reads};
 
 use crate::clock::{all_limits, clock_of};
 use crate::defaults::defaults_of;
-use crate::fault::TableFault;
 use crate::flash::flash_of;
-use crate::forms::{number_at, text_at};
 use crate::ips::ips_of;
-use crate::json::{member_of, needed, value_of};
-use crate::lists::distinct_texts;
 use crate::pins::pins_of;
-use crate::place::{Flaw, Key, Place, Spot, spelled_fault};
 use crate::reset::reset_fault;
 use crate::scales::scales_of;
 use crate::signals::signals_of;
@@ -27,6 +23,10 @@ use res_base::{Items, Text};
 use res_model::{FlashRange, Ip, Pin, Scale, TableParts, TableSignal, Tables};
 use serde_json::Value;
 use std::alloc::Global;
+use table_members::{
+    Flaw, Key, Place, Spot, TableFault, distinct_texts, member_of, needed, number_at,
+    spelled_fault, text_at, value_of,
+};
 
 /// A member of the table, which has to be there.
 fn member(root: &Value, key: Key) -> Result<&Value, Refusal<Flaw>>

@@ -1,20 +1,20 @@
 //! The rows of a signal: the pins that it can have.
 ghost use Rattle.std.specs.Prelude.{◌≡◌, ◌≤◌, ◌<◌, ◌==◌, List, [], ◌∷◌, Some, map, length, option_map, IfOk, IfSome};
 ghost use Rattle.std.specs.List.{list_any};
-ghost use Rattle.mcu_tables.specs.Table.{counted, list, entries_after, pin_named, row, alt_row, pin_row, no_rows, rows, may, need};
+ghost use Rattle.table_members.specs.Forms.{counted, list, entries_after, may, need};
+ghost use Rattle.mcu_tables.specs.Table.{pin_named, row, alt_row, pin_row, no_rows, rows};
 ghost use Rattle.serde_json.specs.View.{view};
-ghost use Rattle.mcu_tables.specs.Places.{spelled, path_of, entry_path, Reads};
+ghost use Rattle.table_members.specs.Places.{spelled, path_of, entry_path, Reads};
 
-use crate::forms::number_at;
-use crate::json::{member_of, needed, two_of, word_of};
-use crate::lists::counted_at;
 use crate::pins::place_of;
-use crate::place::{Flaw, Key, Place, Spot};
 use refusal::Refusal;
 use res_base::Items;
 use res_model::{Mode, Pin, PinUse, Role};
 use serde_json::Value;
 use std::alloc::Global;
+use table_members::{
+    Flaw, Key, Place, Spot, counted_at, member_of, needed, number_at, two_of, word_of,
+};
 
 /// The place of the pin that a value names.
 #[tactic(auto, unfolding(crate::specs::Table::pin_named))]
@@ -90,7 +90,7 @@ fn each_alt_row(
     Ok(found)
 }
 
-#[tactic(auto, unfolding(crate::specs::Table::list))]
+#[tactic(auto, unfolding(table_members::specs::Forms::list))]
 fn alt_rows(
     alloc: Global,
     pins: &[Pin],
@@ -142,7 +142,7 @@ fn each_pin_row(
     Ok(found)
 }
 
-#[tactic(auto, unfolding(crate::specs::Table::list))]
+#[tactic(auto, unfolding(table_members::specs::Forms::list))]
 fn pin_rows(
     alloc: Global,
     pins: &[Pin],

@@ -1,19 +1,19 @@
 //! The power steps of a table with their greatest HCLK.
 ghost use Rattle.std.specs.Prelude.{◌≡◌, ◌≤◌, ◌<◌, ℕ, List, [], ◌∷◌, map, length, slice_index};
 ghost use Rattle.res_model.specs.ClockValues.{widest_hclk};
-ghost use Rattle.mcu_tables.specs.Table.{counted, list, entries_after, scale, scales, number_within, need};
+ghost use Rattle.table_members.specs.Forms.{counted, list, entries_after, number_within, need};
+ghost use Rattle.mcu_tables.specs.Table.{scale, scales};
 ghost use Rattle.serde_json.specs.View.{view};
-ghost use Rattle.mcu_tables.specs.Places.{spelled, path_of, entry_path, Reads};
+ghost use Rattle.table_members.specs.Places.{spelled, path_of, entry_path, Reads};
 
-use crate::forms::{check_object, number_at};
-use crate::json::{member_of, needed};
-use crate::lists::counted_at;
-use crate::place::{Flaw, Key, Place, Spot};
 use refusal::Refusal;
 use res_base::Items;
 use res_model::{Scale, has_over};
 use serde_json::Value;
 use std::alloc::Global;
+use table_members::{
+    Flaw, Key, Place, Spot, check_object, counted_at, member_of, needed, number_at,
+};
 
 /// The greatest HCLK in hertz that a table may state at a power step.
 fn widest_hclk(step: u16) -> u64
@@ -66,7 +66,7 @@ fn each_scale(alloc: Global, vos: &[u16], values: &[Value]) -> Result<Vec<Scale>
 }
 
 /// The power steps of the table with their greatest HCLK, one for each of the clock's.
-#[tactic(auto, unfolding(crate::specs::Table::list))]
+#[tactic(auto, unfolding(table_members::specs::Forms::list))]
 pub fn scales_of(alloc: Global, vos: &[u16], value: &Value) -> Result<Items<Scale>, Refusal<Flaw>>
     requires small { (k : ℕ) → k < length vos.now → slice_index vos.now k < 256 }
     ensures { Reads (λ v. v) result (scales vos.now (path_of (Spot.Top Key.Scales)) (view value.now)) }

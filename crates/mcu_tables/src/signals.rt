@@ -2,15 +2,12 @@
 ghost use Rattle.std.specs.Prelude.{◌≡◌, ◌≤◌, ◌<◌, ◌==◌, List, [], ◌∷◌, Some, None, false, map, length, option_map, option_and_then, IfOk, IfSome, codes};
 ghost use Rattle.std.specs.List.{list_any};
 ghost use Rattle.std.specs.Str.{bytes_eq};
-ghost use Rattle.mcu_tables.specs.Table.{counted, list, entries_after, role_of, use_form, real_name, signal_name, some_text, signal, flag, may, need, member};
+ghost use Rattle.table_members.specs.Forms.{counted, list, entries_after, flag, may, need, member};
+ghost use Rattle.mcu_tables.specs.Table.{role_of, use_form, real_name, signal_name, some_text, signal};
 ghost use Rattle.mcu_tables.specs.Seen.{AreSeen};
 ghost use Rattle.serde_json.specs.View.{view};
-ghost use Rattle.mcu_tables.specs.Places.{spelled, path_of, entry_path, Reads};
+ghost use Rattle.table_members.specs.Places.{spelled, path_of, entry_path, Reads};
 
-use crate::forms::{check_object, flag_at, text_at};
-use crate::json::{member_of, needed};
-use crate::lists::counted_at;
-use crate::place::{Flaw, Key, Place, Spot};
 use crate::rows::rows_of;
 use refusal::Refusal;
 use res_base::{Items, Text};
@@ -18,6 +15,9 @@ use res_model::{Pin, Role, TableSignal};
 use serde_json::Value;
 use std::alloc::Global;
 use std::collections::BTreeMap;
+use table_members::{
+    Flaw, Key, Place, Spot, check_object, counted_at, flag_at, member_of, needed, text_at,
+};
 
 #[tactic(auto, unfolding(crate::specs::Table::role_of))]
 fn role_of(word: &str) -> Option<Role>
@@ -160,7 +160,7 @@ fn each_signal(
 }
 
 /// The signals of the table.
-#[tactic(auto, unfolding(crate::specs::Table::list))]
+#[tactic(auto, unfolding(table_members::specs::Forms::list))]
 pub fn signals_of(
     alloc: Global,
     pins: &[Pin],

@@ -1,8 +1,8 @@
 -- What is said of a table, a project's text or a project that is refused.
 use Rattle.std.specs.Prelude.{ℕ, List, ◌++◌, codes, decimal}
 use Rattle.res_model.specs.LimitNumbers.{limit_number}
-use Rattle.mcu_tables.specs.declared.fault.TableFault.{TableFault}
-use Rattle.mcu_tables.specs.declared.fault.TableFault.TheVariants as tables
+use Rattle.table_members.specs.declared.fault.TableFault.{TableFault}
+use Rattle.table_members.specs.declared.fault.TableFault.TheVariants as tables
 use Rattle.ioc_text.specs.declared.fault.IocFault.{IocFault}
 use Rattle.ioc_text.specs.declared.fault.IocFault.TheVariants as text
 use Rattle.ioc_project.specs.declared.fault.ProjectFault.{ProjectFault}

@@ -15,7 +15,7 @@ use Rattle.choice_rank.specs.Choices.{IsNarrow}
 use Rattle.ioc_project.specs.declared.fault.ProjectFault.{ProjectFault}
 use Rattle.ioc_text.specs.declared.fault.IocFault.{IocFault}
 use Rattle.ioc_text.specs.declared.line.Line.{Line}
-use Rattle.mcu_tables.specs.declared.fault.TableFault.{TableFault}
+use Rattle.table_members.specs.declared.fault.TableFault.{TableFault}
 use Rattle.problem.specs.declared.parts.ProblemParts.{ProblemParts}
 use Rattle.project_reading.specs.Reading.{or_says, project_from, project_from_lines, project_from_text}
 use Rattle.project_reading.specs.Refusals.{project_refusal, table_refusal, text_refusal}

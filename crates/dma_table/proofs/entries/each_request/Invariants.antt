@@ -1,8 +1,8 @@
 use Rattle.std.proofs.Common.{◌≡◌, [], map, drop}
-use Rattle.mcu_tables.specs.Places.{path_of}
-use Rattle.mcu_tables.specs.Table.{entries_after}
-use Rattle.mcu_tables.specs.declared.place.Key.TheVariants.{Dma}
-use Rattle.mcu_tables.specs.declared.place.Spot.TheVariants.{Top}
+use Rattle.table_members.specs.Places.{path_of}
+use Rattle.table_members.specs.Forms.{entries_after}
+use Rattle.table_members.specs.declared.place.Key.TheVariants.{Dma}
+use Rattle.table_members.specs.declared.place.Spot.TheVariants.{Top}
 use Rattle.serde_json.specs.View.{view}
 use Rattle.dma_table.specs.Reading.{request}
 use Rattle.dma_table.proofs.entries.each_request.Given as goal

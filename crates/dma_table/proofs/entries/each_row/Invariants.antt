@@ -1,6 +1,6 @@
 use Rattle.std.proofs.Common.{◌≡◌, [], map, drop}
-use Rattle.mcu_tables.specs.Places.{path_of}
-use Rattle.mcu_tables.specs.Table.{entries_after}
+use Rattle.table_members.specs.Places.{path_of}
+use Rattle.table_members.specs.Forms.{entries_after}
 use Rattle.serde_json.specs.View.{view}
 use Rattle.dma_table.specs.Reading.{row}
 use Rattle.dma_table.proofs.entries.each_row.Given as goal

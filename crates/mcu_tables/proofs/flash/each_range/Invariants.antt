@@ -1,9 +1,10 @@
 use Rattle.std.proofs.Common.{◌≡◌, [], map, drop}
-use Rattle.mcu_tables.specs.Table.{entries_after, flash_range}
+use Rattle.table_members.specs.Forms.{entries_after}
+use Rattle.mcu_tables.specs.Table.{flash_range}
 use Rattle.serde_json.specs.View.{view}
-use Rattle.mcu_tables.specs.Places.{path_of}
-use Rattle.mcu_tables.specs.declared.place.Spot.TheVariants.{Top}
-use Rattle.mcu_tables.specs.declared.place.Key.TheVariants.{Flash}
+use Rattle.table_members.specs.Places.{path_of}
+use Rattle.table_members.specs.declared.place.Spot.TheVariants.{Top}
+use Rattle.table_members.specs.declared.place.Key.TheVariants.{Flash}
 use Rattle.mcu_tables.proofs.flash.each_range.Given as goal
 
 abbrev pub invariant-loop-value : goal.invariant-loop-value

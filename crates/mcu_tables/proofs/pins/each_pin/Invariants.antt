@@ -1,9 +1,10 @@
 use Rattle.std.proofs.Common.{◌≡◌, [], length, map, drop}
-use Rattle.mcu_tables.specs.Table.{entries_after, pin}
+use Rattle.table_members.specs.Forms.{entries_after}
+use Rattle.mcu_tables.specs.Table.{pin}
 use Rattle.serde_json.specs.View.{view}
-use Rattle.mcu_tables.specs.Places.{path_of}
-use Rattle.mcu_tables.specs.declared.place.Spot.TheVariants.{Top}
-use Rattle.mcu_tables.specs.declared.place.Key.TheVariants.{Pins}
+use Rattle.table_members.specs.Places.{path_of}
+use Rattle.table_members.specs.declared.place.Spot.TheVariants.{Top}
+use Rattle.table_members.specs.declared.place.Key.TheVariants.{Pins}
 use Rattle.mcu_tables.proofs.pins.each_pin.Given as goal
 
 abbrev pub invariant-loop-value : goal.invariant-loop-value

@@ -1,8 +1,8 @@
 use Rattle.std.proofs.Common.{rules, ◌≡◌, sym, subst, ◌∙◌, Result, Err}
 use Rattle.serde_json.specs.View.{view}
 use Rattle.mcu_tables.specs.Table.{defaults}
-use Rattle.mcu_tables.specs.Places.{Reads}
-use Rattle.mcu_tables.specs.declared.fault.TableFault.{TableFault}
+use Rattle.table_members.specs.Places.{Reads}
+use Rattle.table_members.specs.declared.fault.TableFault.{TableFault}
 use Rattle.res_model.specs.declared.table.TableParts.{TableParts}
 use Rattle.mcu_tables.proofs.ReadLemmas.{table_ends, step, refused_reads}
 use Rattle.mcu_tables.proofs.ScaleLemmas.{vos_small}

@@ -1,7 +1,8 @@
 use Rattle.std.proofs.Common.{◌≡◌, [], map, drop}
-use Rattle.mcu_tables.specs.Table.{entries_after, alt_row}
+use Rattle.table_members.specs.Forms.{entries_after}
+use Rattle.mcu_tables.specs.Table.{alt_row}
 use Rattle.serde_json.specs.View.{view}
-use Rattle.mcu_tables.specs.Places.{path_of}
+use Rattle.table_members.specs.Places.{path_of}
 use Rattle.mcu_tables.proofs.rows.each_alt_row.Given as goal
 
 abbrev pub invariant-loop-value : goal.invariant-loop-value

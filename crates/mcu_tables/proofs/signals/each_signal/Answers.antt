@@ -1,12 +1,13 @@
 use Rattle.std.proofs.Common.{List, [], map, sym, subst, ◌∙◌}
-use Rattle.mcu_tables.specs.Table.{entries_after, signal}
+use Rattle.table_members.specs.Forms.{entries_after}
+use Rattle.mcu_tables.specs.Table.{signal}
 use Rattle.serde_json.specs.View.{view}
 use Rattle.res_model.specs.declared.table.TableSignal.{TableSignal}
-use Rattle.mcu_tables.specs.Places.{path_of}
+use Rattle.table_members.specs.Places.{path_of}
 use Rattle.mcu_tables.specs.Seen.{AreSeen}
-use Rattle.mcu_tables.specs.declared.place.Spot.TheVariants.{Top}
-use Rattle.mcu_tables.specs.declared.place.Key.TheVariants.{Signals}
-use Rattle.mcu_tables.proofs.EntryLemmas.{entries_next}
+use Rattle.table_members.specs.declared.place.Spot.TheVariants.{Top}
+use Rattle.table_members.specs.declared.place.Key.TheVariants.{Signals}
+use Rattle.table_members.proofs.EntryLemmas.{entries_next}
 use Rattle.mcu_tables.proofs.SeenLemmas.{seen_more}
 use Rattle.mcu_tables.proofs.signals.each_signal.Goals as goal
 

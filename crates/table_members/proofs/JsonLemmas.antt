@@ -8,7 +8,7 @@ use Rattle.serde_json.specs.Data.{Data, Items}
 use Rattle.serde_json.specs.Read.{read}
 use Rattle.serde_json.specs.View.{items_of}
 use Rattle.serde_json.specs.Find.{as_array}
-use Rattle.mcu_tables.specs.Json.{list_of, json_of, entries}
+use Rattle.table_members.specs.Json.{list_of, json_of, entries}
 
 pub list_of_items : (ds : List Data) → list_of (items_of ds) ≡ ds
 list_of_items [] = refl

@@ -2,17 +2,17 @@
 use Rattle.std.specs.Prelude.{◌≡◌, ℕ, List, [], codes, decimal, Result, Ok, Err}
 use Rattle.refusal.specs.declared.refusal.Refusal.{Refusal}
 use Rattle.refusal.specs.declared.refusal.Refusal.TheVariants.{Fault, OutOfMemory}
-use Rattle.mcu_tables.specs.Table.{below}
-use Rattle.mcu_tables.specs.declared.fault.TableFault.{TableFault}
-use Rattle.mcu_tables.specs.declared.fault.TableFault.TheVariants as fault
-use Rattle.mcu_tables.specs.declared.place.Key.{Key}
-use Rattle.mcu_tables.specs.declared.place.Key.TheVariants.{Version, Names, Package, Pins, Signals, Name, Use, Ip, Drain, At, HseIn, HseOut, Ips, Clock48, Floor, Marks, Clock, M, N, Q, P, Hpre, Ppre1, Ppre2, Vos, Limits, Crystal, Bypass, VcoIn, Vco, Sysclk, Pclk1, Pclk2, Over, Scales, Max, Flash, From, To, Prefetch, Rows, Defaults, Src, Psrc, Hse, Dma}
-use Rattle.mcu_tables.specs.declared.place.Spot.{Spot}
-use Rattle.mcu_tables.specs.declared.place.Spot.TheVariants.{Top, Nested, Deep, Inner}
-use Rattle.mcu_tables.specs.declared.place.Place.{Place}
-use Rattle.mcu_tables.specs.declared.place.Place.TheVariants.{Member, Entry}
-use Rattle.mcu_tables.specs.declared.place.Flaw.{Flaw}
-use Rattle.mcu_tables.specs.declared.place.Flaw.TheVariants.{NotJson, Missing, BadField, Repeated, ResetIllegal}
+use Rattle.table_members.specs.Forms.{below}
+use Rattle.table_members.specs.declared.fault.TableFault.{TableFault}
+use Rattle.table_members.specs.declared.fault.TableFault.TheVariants as fault
+use Rattle.table_members.specs.declared.place.Key.{Key}
+use Rattle.table_members.specs.declared.place.Key.TheVariants.{Version, Names, Package, Pins, Signals, Name, Use, Ip, Drain, At, HseIn, HseOut, Ips, Clock48, Floor, Marks, Clock, M, N, Q, P, Hpre, Ppre1, Ppre2, Vos, Limits, Crystal, Bypass, VcoIn, Vco, Sysclk, Pclk1, Pclk2, Over, Scales, Max, Flash, From, To, Prefetch, Rows, Defaults, Src, Psrc, Hse, Dma}
+use Rattle.table_members.specs.declared.place.Spot.{Spot}
+use Rattle.table_members.specs.declared.place.Spot.TheVariants.{Top, Nested, Deep, Inner}
+use Rattle.table_members.specs.declared.place.Place.{Place}
+use Rattle.table_members.specs.declared.place.Place.TheVariants.{Member, Entry}
+use Rattle.table_members.specs.declared.place.Flaw.{Flaw}
+use Rattle.table_members.specs.declared.place.Flaw.TheVariants.{NotJson, Missing, BadField, Repeated, ResetIllegal}
 
 abbrev pub spelling : Key → List ℕ
 spelling Version = codes "version"

@@ -1,9 +1,9 @@
 //! Values of a single form: a text, a flag, a number, a pair.
 ghost use Rattle.std.specs.Prelude.{◌≡◌, ◌≤◌, ◌<◌, ◌==◌, List, [], ◌∷◌, Some, map, length, option_map, find, IfOk, IfSome};
-ghost use Rattle.mcu_tables.specs.Json.{is_object};
-ghost use Rattle.mcu_tables.specs.Table.{text, flag, object, number_within, number_among, pair_within};
+ghost use Rattle.table_members.specs.Json.{is_object};
+ghost use Rattle.table_members.specs.Forms.{text, flag, object, number_within, number_among, pair_within};
 ghost use Rattle.serde_json.specs.View.{view};
-ghost use Rattle.mcu_tables.specs.Places.{spelled, path_of, Reads};
+ghost use Rattle.table_members.specs.Places.{spelled, path_of, Reads};
 
 use crate::json::{number_of, two_of, word_of};
 use crate::place::{Flaw, Place, Spot};
@@ -12,7 +12,8 @@ use res_base::Text;
 use serde_json::Value;
 use std::alloc::Global;
 
-#[tactic(auto, unfolding(crate::specs::Table::text))]
+/// A text of 1 to 64 printing bytes.
+#[tactic(auto, unfolding(crate::specs::Forms::text))]
 pub fn text_at<'v>(at: Place, value: &'v Value) -> Result<&'v str, Refusal<Flaw>>
     ensures { Reads (λ s. s.now) result (text (spelled at) (view value.now)) }
 {
@@ -22,7 +23,8 @@ pub fn text_at<'v>(at: Place, value: &'v Value) -> Result<&'v str, Refusal<Flaw>
     }
 }
 
-#[tactic(auto, unfolding(crate::specs::Table::flag))]
+/// A flag.
+#[tactic(auto, unfolding(crate::specs::Forms::flag))]
 pub fn flag_at(at: Place, value: &Value) -> Result<bool, Refusal<Flaw>>
     ensures { Reads (λ b. b) result (flag (spelled at) (view value.now)) }
 {
@@ -32,7 +34,8 @@ pub fn flag_at(at: Place, value: &Value) -> Result<bool, Refusal<Flaw>>
     }
 }
 
-#[tactic(auto, unfolding(crate::specs::Table::object))]
+/// The value has to be an object.
+#[tactic(auto, unfolding(crate::specs::Forms::object))]
 pub fn check_object(at: Place, value: &Value) -> Result<(), Refusal<Flaw>>
     ensures { Reads (λ _. view value.now) result (object (spelled at) (view value.now)) }
 {
@@ -42,7 +45,8 @@ pub fn check_object(at: Place, value: &Value) -> Result<(), Refusal<Flaw>>
     }
 }
 
-#[tactic(auto, unfolding(crate::specs::Table::number_within))]
+/// A number from low to high.
+#[tactic(auto, unfolding(crate::specs::Forms::number_within))]
 pub fn number_at(low: u64, high: u64, at: Place, value: &Value) -> Result<u64, Refusal<Flaw>>
     ensures reads { Reads (λ n. n) result (number_within low high (spelled at) (view value.now)) }
     ensures within { IfOk result (λ n. n ≤ high) }
@@ -57,7 +61,8 @@ pub fn number_at(low: u64, high: u64, at: Place, value: &Value) -> Result<u64, R
     }
 }
 
-#[tactic(auto, unfolding(crate::specs::Table::pair_within))]
+/// A least and a greatest number, both from low to high.
+#[tactic(auto, unfolding(crate::specs::Forms::pair_within))]
 pub fn pair_at(low: u64, high: u64, at: Place, value: &Value) -> Result<(u64, u64), Refusal<Flaw>>
     ensures reads { Reads (λ p. p) result (pair_within low high (spelled at) (view value.now)) }
     ensures within { IfOk result (λ p. (p.0 ≤ high) × (p.1 ≤ high)) }
@@ -84,7 +89,8 @@ fn same_of(these: &[u16], n: u64) -> Option<u16>
     these.iter().copied().find(|x| u64::from(*x) == n)
 }
 
-#[tactic(auto, unfolding(crate::specs::Table::number_among))]
+/// One of these numbers.
+#[tactic(auto, unfolding(crate::specs::Forms::number_among))]
 pub fn among_at(these: &[u16], at: Place, value: &Value) -> Result<u16, Refusal<Flaw>>
     ensures { Reads (λ n. n) result (number_among these.now (spelled at) (view value.now)) }
 {

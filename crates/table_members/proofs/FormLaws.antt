@@ -1,18 +1,18 @@
--- What each part of a table that is read keeps.
+-- What each member that is read keeps, by its form.
 use Rattle.std.proofs.Common.{◌≡◌, ℕ, ◌≤◌, ◌+◌, List, [], ◌∷◌, ◌++◌, length, Bool, true, false, Option, Some, None, Result, Ok, Err, refl, ap, subst, arith, ◌⊎◌, inl, inr, ◌&&◌, ◌||◌, leb-true}
 use Rattle.std.specs.Prelude.{nat_le, ◌==◌, option_and_then, find, if◌then◌else◌, decimal}
 use Rattle.std.specs.List.{list_any, list_all}
 use Rattle.std.proofs.lemmas.Grind.{common_steps}
-use Rattle.res_base.specs.Lists.{Each, Member}
-use Rattle.res_base.proofs.ListLemmas.{each_map}
+use Rattle.res_base.specs.Lists.{Each, Member, Pairwise}
+use Rattle.res_base.proofs.ListLemmas.{each_map, each_push, pairs_push}
 use Rattle.res_model.specs.Steps.{◌>>=◌}
-use Rattle.mcu_tables.specs.Json.{word, is_word, is_printing, number, two, entries}
-use Rattle.mcu_tables.specs.Table.{below, due, must, fresh, need, may, text, number_within, number_among, pair_within, counted, list, entries_after}
+use Rattle.table_members.specs.Json.{inside, word, is_word, is_printing, number, two, entries}
+use Rattle.table_members.specs.Forms.{below, due, must, fresh, need, may, nested, text, number_within, number_among, pair_within, counted, list, entries_after}
 use Rattle.res_model.specs.Valid.{IsText, IsPrinting, IsRange}
 use Rattle.serde_json.specs.Data.{Data}
 use Rattle.serde_json.specs.Find.{as_str}
-use Rattle.mcu_tables.specs.declared.fault.TableFault.{TableFault}
-use Rattle.mcu_tables.specs.declared.fault.TableFault.TheVariants.{BadField}
+use Rattle.table_members.specs.declared.fault.TableFault.{TableFault}
+use Rattle.table_members.specs.declared.fault.TableFault.TheVariants.{BadField}
 
 -- ---- steps
 
@@ -46,6 +46,9 @@ need_keeps P form path (Some d) x keeps h = keeps d h
 pub may_keeps : {X : Type 0} (P : X → Type 0) (form : List ℕ → Data → Result X TableFault) (absent : X) (path : List ℕ) (found : Option Data) (x : X) → P absent → ((d : Data) → form path d ≡ Ok x → P x) → may form absent path found ≡ Ok x → P x
 may_keeps P form absent path None x here keeps h = subst P (same_ok absent x h) here
 may_keeps P form absent path (Some d) x here keeps h = keeps d h
+
+pub nested_keeps : {X : Type 0} (P : X → Type 0) (form : List ℕ → Data → Result X TableFault) (group key : List ℕ) (d : Data) (x : X) → ((path : List ℕ) (v : Data) → form path v ≡ Ok x → P x) → nested form group key d ≡ Ok x → P x
+nested_keeps P form group key d x keeps h = need_keeps P form (below (below [] group) key) (inside group key d) x (λ v e. keeps (below (below [] group) key) v e) h
 
 -- ---- tests
 
@@ -163,3 +166,11 @@ list_keeps I least most entry path d xs here step h =
     let same : length e.0 ≡ length c.0 = ap length m.1 in
     let long : length xs ≡ 0 + length c.0 = entries_long entry path [] c.0 xs c.2 in
     record { low = omega (arith, r.0, same, long); high = omega (arith, r.1, same, long); kept = entries_keep I entry path step [] c.0 xs here c.2 }
+
+-- each keeps P, and any two keep R
+abbrev pub AreKept : {X : Type 0} → (X → Type 0) → (X → X → Type 0) → List X → Type 0
+AreKept P R xs = Each P xs × Pairwise R xs
+
+-- one more
+pub one_more : {X : Type 0} (P : X → Type 0) (R : X → X → Type 0) (xs : List X) (x : X) → AreKept P R xs → P x → Each (λ y. R y x) xs → AreKept P R (xs ++ x ∷ [])
+one_more P R xs x h p r = (each_push P xs x h.0 p, pairs_push R xs x h.1 r)

@@ -3,9 +3,9 @@ use Rattle.std.proofs.Common.{◌≡◌, ℕ, suc, ◌+◌, ◌<◌, List, [], �
 use Rattle.std.specs.Prelude.{decimal}
 use Rattle.std.proofs.Math.Seq.{drop-cons}
 use Rattle.res_model.specs.Steps.{◌>>=◌}
-use Rattle.mcu_tables.specs.Table.{below, entries_after}
+use Rattle.table_members.specs.Forms.{below, entries_after}
 use Rattle.serde_json.specs.Data.{Data}
-use Rattle.mcu_tables.specs.declared.fault.TableFault.{TableFault}
+use Rattle.table_members.specs.declared.fault.TableFault.{TableFault}
 
 pub entries_next : {V X : Type 0} (view : V → Data) (entry : List X → List ℕ → Data → Result X TableFault) (path : List ℕ) (before lent more : List X) (values : List V) (i : ℕ) (v : V) (x : X) (all : Result (List X) TableFault)
     → i < length values → v ≡ get_or values i v → lent ≡ before → entry lent (below path (decimal (length lent))) (view v) ≡ Ok x → more ≡ before ++ x ∷ []

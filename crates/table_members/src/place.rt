@@ -1,7 +1,7 @@
 //! Where a fault is in a table, and how its path is spelled.
 ghost use Rattle.std.specs.Prelude.{◌≡◌, ◌++◌, [], ◌∷◌, decimal, IfOk, OnOk, string_bytes};
-ghost use Rattle.mcu_tables.specs.Table.{below};
-ghost use Rattle.mcu_tables.specs.Places.{spelling, path_of, spelled, fault_of};
+ghost use Rattle.table_members.specs.Forms.{below};
+ghost use Rattle.table_members.specs.Places.{spelling, path_of, spelled, fault_of};
 
 use crate::fault::TableFault;
 use res_base::{OutOfMemory, Text};
@@ -60,6 +60,7 @@ pub enum Key {
 }
 
 impl Key {
+    /// Its name in the text of a table.
     pub fn spelling(self) -> &'static str
         ensures { result.now ≡ spelling self }
     {

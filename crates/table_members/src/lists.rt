@@ -2,9 +2,9 @@
 ghost use Rattle.std.specs.Prelude.{◌≡◌, ◌≤◌, ◌<◌, ◌==◌, ◌-◌, List, [], ◌∷◌, Some, map, length, option_map, option_copied, slice_get, IfOk, IfSome};
 ghost use Rattle.std.specs.List.{list_any};
 ghost use Rattle.std.specs.Str.{bytes_eq};
-ghost use Rattle.mcu_tables.specs.Table.{counted, list, entries_after, any_text, distinct_text, is_above, above, next_among, some_among, one_among};
+ghost use Rattle.table_members.specs.Forms.{counted, list, entries_after, any_text, distinct_text, is_above, above, next_among, some_among, one_among};
 ghost use Rattle.serde_json.specs.View.{view};
-ghost use Rattle.mcu_tables.specs.Places.{spelled, path_of, Reads};
+ghost use Rattle.table_members.specs.Places.{spelled, path_of, Reads};
 
 use crate::forms::{among_at, text_at};
 use crate::json::{entries_of, number_of};
@@ -15,7 +15,7 @@ use serde_json::Value;
 use std::alloc::Global;
 
 /// The entries of a list of so many.
-#[tactic(auto, unfolding(crate::specs::Table::counted))]
+#[tactic(auto, unfolding(crate::specs::Forms::counted))]
 pub fn counted_at(
     at: Spot,
     value: &Value,
@@ -42,7 +42,7 @@ fn has_text(before: &[Text], name: &str) -> bool
     before.iter().any(|text| text.as_str() == name)
 }
 
-#[tactic(auto, unfolding(crate::specs::Table::distinct_text))]
+#[tactic(auto, unfolding(crate::specs::Forms::distinct_text))]
 fn distinct_at<'v>(before: &[Text], at: Place, value: &'v Value) -> Result<&'v str, Refusal<Flaw>>
     ensures { Reads (λ s. s.now) result (distinct_text before.now (spelled at) (view value.now)) }
 {
@@ -66,7 +66,7 @@ fn each_distinct(alloc: Global, at: Spot, values: &[Value]) -> Result<Vec<Text>,
 }
 
 /// A list of distinct texts.
-#[tactic(auto, unfolding(crate::specs::Table::list))]
+#[tactic(auto, unfolding(crate::specs::Forms::list))]
 pub fn distinct_texts(
     alloc: Global,
     at: Spot,
@@ -80,7 +80,7 @@ pub fn distinct_texts(
     Ok(Items::of(each_distinct(alloc, at, values)?))
 }
 
-#[tactic(auto, unfolding(crate::specs::Table::any_text))]
+#[tactic(auto, unfolding(crate::specs::Forms::any_text))]
 fn each_text(alloc: Global, at: Spot, values: &[Value]) -> Result<Vec<Text>, Refusal<Flaw>>
     ensures { Reads (λ v. v.items) result (entries_after any_text (path_of at) [] (map view values.now)) }
 {
@@ -93,7 +93,7 @@ fn each_text(alloc: Global, at: Spot, values: &[Value]) -> Result<Vec<Text>, Ref
 }
 
 /// A list of texts.
-#[tactic(auto, unfolding(crate::specs::Table::list))]
+#[tactic(auto, unfolding(crate::specs::Forms::list))]
 pub fn texts(
     alloc: Global,
     at: Spot,
@@ -115,7 +115,7 @@ fn is_above(before: &[u64], n: u64) -> bool
     }
 }
 
-#[tactic(auto, unfolding(crate::specs::Table::above))]
+#[tactic(auto, unfolding(crate::specs::Forms::above))]
 fn above_at(before: &[u64], at: Place, value: &Value) -> Result<u64, Refusal<Flaw>>
     ensures { Reads (λ n. n) result (above before.now (spelled at) (view value.now)) }
 {
@@ -141,7 +141,7 @@ fn each_above(alloc: Global, at: Spot, values: &[Value]) -> Result<Vec<u64>, Ref
 }
 
 /// An ascending list of numbers.
-#[tactic(auto, unfolding(crate::specs::Table::list))]
+#[tactic(auto, unfolding(crate::specs::Forms::list))]
 pub fn ascending(
     alloc: Global,
     at: Spot,
@@ -164,7 +164,7 @@ fn is_next(before: &[u16], n: u16) -> bool
     }
 }
 
-#[tactic(auto, unfolding(crate::specs::Table::next_among))]
+#[tactic(auto, unfolding(crate::specs::Forms::next_among))]
 fn next_at(these: &[u16], before: &[u16], at: Place, value: &Value) -> Result<u16, Refusal<Flaw>>
     ensures { Reads (λ n. n) result (next_among these.now before.now (spelled at) (view value.now)) }
 {
@@ -198,7 +198,7 @@ fn each_among(
 }
 
 /// An ascending list within these numbers, with at least one.
-#[tactic(auto, unfolding(crate::specs::Table::some_among))]
+#[tactic(auto, unfolding(crate::specs::Forms::some_among))]
 pub fn some_among(
     alloc: Global,
     these: &[u16],
@@ -225,7 +225,7 @@ fn has_one(numbers: &[u16]) -> bool
 }
 
 /// An ascending list within these numbers, with 1 in it.
-#[tactic(auto, unfolding(crate::specs::Table::one_among))]
+#[tactic(auto, unfolding(crate::specs::Forms::one_among))]
 pub fn one_among(
     alloc: Global,
     these: &[u16],

@@ -1,19 +1,19 @@
 //! A JSON value and its members.
 ghost use Rattle.std.specs.Prelude.{◌≡◌, ◌≤◌, List, [], ◌∷◌, Some, map, length, option_map, codes, IfSome};
 ghost use Rattle.std.specs.List.{list_all};
-ghost use Rattle.mcu_tables.specs.Json.{json_of, is_object, inside, entries, two, number, is_printing, is_word, word};
-ghost use Rattle.mcu_tables.specs.Table.{due};
+ghost use Rattle.table_members.specs.Json.{json_of, is_object, inside, entries, two, number, is_printing, is_word, word};
+ghost use Rattle.table_members.specs.Forms.{due};
 ghost use Rattle.serde_json.specs.Find.{get, as_str, as_bool};
 ghost use Rattle.serde_json.specs.View.{view};
-ghost use Rattle.mcu_tables.specs.declared.fault.TableFault.TheVariants as fault;
-ghost use Rattle.mcu_tables.specs.Places.{spelling, spelled, path_of, Reads};
+ghost use Rattle.table_members.specs.declared.fault.TableFault.TheVariants as fault;
+ghost use Rattle.table_members.specs.Places.{spelling, spelled, path_of, Reads};
 
 use crate::place::{Flaw, Key, Place, Spot};
 use refusal::Refusal;
 use serde_json::Value;
 use std::alloc::Global;
 
-/// The value of the bytes.
+/// The value of the bytes, which have to be JSON.
 #[tactic(auto, unfolding(crate::specs::Json::json_of))]
 pub fn value_of(alloc: Global, bytes: &[u8]) -> Result<Value, Refusal<Flaw>>
     ensures { Reads (λ v. view v) result (due fault.NotJson (json_of bytes.now)) }
@@ -33,6 +33,7 @@ pub fn value_of(alloc: Global, bytes: &[u8]) -> Result<Value, Refusal<Flaw>>
     }
 }
 
+/// The member of this name, where the value is an object that has it.
 pub fn member_of(value: &Value, key: Key) -> Option<&Value>
     ensures { option_map (λ v. view v.now) result ≡ get (spelling key) (view value.now) }
 {
@@ -72,6 +73,7 @@ pub fn entries_of(value: &Value) -> Option<&Vec<Value>>
     value.as_array()
 }
 
+/// The entries of a list of two.
 #[tactic(auto, unfolding(crate::specs::Json::two))]
 pub fn two_of(value: &Value) -> Option<(&Value, &Value)>
     ensures { option_map (λ p. (view p.0.now, view p.1.now)) result ≡ two (view value.now) }
@@ -84,6 +86,7 @@ pub fn two_of(value: &Value) -> Option<(&Value, &Value)>
     }
 }
 
+/// A number from 0 to 2^64 - 1.
 pub fn number_of(value: &Value) -> Option<u64>
     ensures { result ≡ number (view value.now) }
 {
@@ -115,6 +118,7 @@ fn is_word(text: &str) -> bool
     are_printing(text.as_bytes())
 }
 
+/// A text of 1 to 64 printing bytes of ASCII, none of them a blank.
 #[tactic(auto, unfolding(crate::specs::Json::word))]
 pub fn word_of(value: &Value) -> Option<&str>
     ensures { option_map (λ s. s.now) result ≡ word (view value.now) }

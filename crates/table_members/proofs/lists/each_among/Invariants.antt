@@ -1,8 +1,8 @@
 use Rattle.std.proofs.Common.{◌≡◌, [], map, drop}
-use Rattle.mcu_tables.specs.Table.{entries_after, next_among}
+use Rattle.table_members.specs.Forms.{entries_after, next_among}
 use Rattle.serde_json.specs.View.{view}
-use Rattle.mcu_tables.specs.Places.{path_of}
-use Rattle.mcu_tables.proofs.lists.each_among.Given as goal
+use Rattle.table_members.specs.Places.{path_of}
+use Rattle.table_members.proofs.lists.each_among.Given as goal
 
 abbrev pub invariant-loop-value : goal.invariant-loop-value
 invariant-loop-value l = entries_after (next_among l.these) (path_of l.at) l.found.items (map view (drop l.value-index l.values)) ≡ entries_after (next_among l.these) (path_of l.at) [] (map view l.values)

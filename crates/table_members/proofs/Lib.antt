@@ -1,0 +1,4 @@
+pub mod EntryLemmas
+pub mod FormLaws
+pub mod JsonLemmas
+pub mod ListLaws
