@@ -10,7 +10,7 @@ use Rattle.table_members.specs.Forms.{due, text, list}
 use Rattle.mcu_tables.specs.Table.{is_same_pin, pin}
 use Rattle.res_model.specs.Valid.{IsPin, AreTwoPins, ArePins}
 use Rattle.res_model.proofs.PlaceLaws.{differ}
-use Rattle.table_members.proofs.FormLaws.{bound, due_some, fresh_new, both, neither, between, none_passes, text_keeps, list_keeps}
+use Rattle.table_members.proofs.FormLaws.{bound, due_some, fresh_new, both, neither, between, none_passes, text_keeps, list_keeps, AreKept, one_more}
 use Rattle.serde_json.specs.Data.{Data}
 use Rattle.table_members.specs.declared.fault.TableFault.TheVariants.{BadField}
 use Rattle.res_model.specs.declared.table.Pin.{Pin}
