@@ -1,6 +1,7 @@
 -- What meets the limits under a wish for HCLK meets them without it, and a wish for the clock of a bus is one for HCLK: limit by
 -- limit.
-use Rattle.std.proofs.Common.{◌≡◌, ◌⊎◌, inl, inr, ◌==◌, ◌||◌, ◌&&◌, ◌*◌, ◌^◌, ℕ, List, [], ◌∷◌, Bool, true, false, Option, Some, None, refl, sym, subst, ap, ◌∙◌}
+use Rattle.std.proofs.Common.{◌≡◌, ◌⊎◌, inl, inr, ◌==◌, ◌||◌, ◌&&◌, ◌*◌, ◌^◌, ◌<◌, ℕ, List, [], ◌∷◌, Bool, true, false, Option, Some, None, refl, sym, subst, ap, ◌∙◌, arith}
+use Rattle.std.proofs.lemmas.Bool.Decides.{nat_tests}
 use Rattle.std.proofs.Math.Nat.{mul_assoc, mul_comm}
 use Rattle.std.specs.Prelude.{is_none, nat_le, nat_lt}
 use Rattle.clock_limits.proofs.LeastLemmas.{broken_is_least}
@@ -50,24 +51,8 @@ module _ (t : TableParts) (f : Facts) (hclk : Option ℕ) (c : ClockChoice) (non
 
   allowed : Allow (limits_of t (record f { hclk = hclk }) c) (limits_of t f c)
   unfolding limits_of
-  allowed = (
-    (λ e. e),
-    (λ e. e),
-    (λ e. e),
-    (λ e. e),
-    (λ e. e),
-    (λ e. e),
-    (λ e. e),
-    (λ e. e),
-    (λ e. e),
-    (λ e. e),
-    (λ e. e),
-    (λ e. no_wish (hclk_of f c)),
-    (λ e. e),
-    (λ e. e),
-    (λ e. e),
-    tt,
-  )
+  allowed =
+      ((λ e. e), ((λ e. e), ((λ e. e), ((λ e. e), ((λ e. e), ((λ e. e), ((λ e. e), ((λ e. e), ((λ e. e), ((λ e. e), ((λ e. e), ((λ e. no_wish (hclk_of f c)), ((λ e. e), ((λ e. e), ((λ e. e), tt)))))))))))))))
 
   pub clocks_allowed : is_none (broken_limit t (record f { hclk = hclk }) c) ≡ true → is_none (broken_limit t f c) ≡ true
   clocks_allowed e = still_met (limits_of t (record f { hclk = hclk }) c) (limits_of t f c) allowed e
@@ -114,24 +99,8 @@ module _ (t : TableParts) (f : Facts) (wish : ℕ) (c : ClockChoice) (met : is_n
 
   fixed : (hclk : ℕ) → is_as_wished (Some hclk) (hclk_of f c) ≡ true → Allow (limits_of t f c) (limits_of t (record f { hclk = Some hclk }) c)
   unfolding limits_of
-  fixed hclk h = (
-    (λ e. e),
-    (λ e. e),
-    (λ e. e),
-    (λ e. e),
-    (λ e. e),
-    (λ e. e),
-    (λ e. e),
-    (λ e. e),
-    (λ e. e),
-    (λ e. e),
-    (λ e. e),
-    (λ e. h),
-    (λ e. e),
-    (λ e. e),
-    (λ e. e),
-    tt,
-  )
+  fixed hclk h =
+      ((λ e. e), ((λ e. e), ((λ e. e), ((λ e. e), ((λ e. e), ((λ e. e), ((λ e. e), ((λ e. e), ((λ e. e), ((λ e. e), ((λ e. e), ((λ e. h), ((λ e. e), ((λ e. e), ((λ e. e), tt)))))))))))))))
 
   pub by_pclk1 : f.pclk1 ≡ Some wish → is_none (broken_limit t (record f { hclk = Some (wish * c.ppre1) }) c) ≡ true
   by_pclk1 e = still_met (limits_of t f c) (limits_of t (record f { hclk = Some (wish * c.ppre1) }) c) (fixed (wish * c.ppre1) (wished_as f.pclk1 wish c.ppre1 (hclk_of f c) e pclk1_met)) met
@@ -148,7 +117,7 @@ low_is w k wish variable e = case (nat_lt w (2 ^ 48)) refl
     case false q = let x : ◌≡◌ {A = Option (ℕ × ℕ)} None (Some (wish, variable)) = rw q at e in absurd cc
 
 module _ (wish variable : ℕ) where
-  IsOf : Option ℕ → Option ℕ → Type 0
+  abbrev IsOf : Option ℕ → Option ℕ → Type 0
   IsOf pclk1 pclk2 = ((pclk1 ≡ Some wish) × (variable ≡ 7)) ⊎ ((pclk2 ≡ Some wish) × (variable ≡ 8))
 
   of_bus : (pclk1 pclk2 : Option ℕ) → wish_of_bus pclk1 pclk2 ≡ Some (wish, variable) → IsOf pclk1 pclk2
@@ -161,7 +130,7 @@ module _ (wish variable : ℕ) where
   of_facts (Some h) pclk1 pclk2 e = absurd cc
 
 module _ (p : ProblemParts) (wish variable : ℕ) (at : List ℕ) (is : bus_wish p.facts ≡ Some (wish, variable)) where
-  hertz : ℕ
+  abbrev pub hertz : ℕ
   hertz = wish * clock_value p.clock at variable
 
   all_pins : Bool
@@ -174,7 +143,7 @@ module _ (p : ProblemParts) (wish variable : ℕ) (at : List ℕ) (is : bus_wish
   fixed_clocks = p.first == 0 || is_none (broken_limit p.tables (record p.facts { hclk = Some hertz }) (clock_at p.clock at))
 
   by_clocks : is_none (broken_limit p.tables p.facts (clock_at p.clock at)) ≡ true → is_none (broken_limit p.tables (record p.facts { hclk = Some hertz }) (clock_at p.clock at)) ≡ true
-  unfolding hertz clock_at
+  unfolding clock_at
   by_clocks met = elim (of_facts wish variable p.facts.hclk p.facts.pclk1 p.facts.pclk2 is) [
     | inl b ↦ subst (λ k. is_none (broken_limit p.tables (record p.facts { hclk = Some (wish * clock_value p.clock at k) }) (clock_at p.clock at)) ≡ true) (sym b.1) (by_pclk1 p.tables p.facts wish (clock_at p.clock at) met b.0)
     | inr b ↦ subst (λ k. is_none (broken_limit p.tables (record p.facts { hclk = Some (wish * clock_value p.clock at k) }) (clock_at p.clock at)) ≡ true) (sym b.1) (by_pclk2 p.tables p.facts wish (clock_at p.clock at) met b.0)
@@ -186,3 +155,30 @@ module _ (p : ProblemParts) (wish variable : ℕ) (at : List ℕ) (is : bus_wish
       both all_pins fixed_clocks (and_left all_pins free_clocks e)
       (part_is p.first (is_none (broken_limit p.tables (record p.facts { hclk = Some hertz }) (clock_at p.clock at)))
       (λ n. by_clocks (whole_is p.first (is_none (broken_limit p.tables p.facts (clock_at p.clock at))) (and_right all_pins free_clocks e) n)))
+
+-- the divider of a bus is one of the ten clock variables
+pub variable_is_clock : (f : Facts) (wish variable : ℕ) → bus_wish f ≡ Some (wish, variable) → variable < 10
+variable_is_clock f wish variable e = elim (of_facts wish variable f.hclk f.pclk1 f.pclk2 e) [
+  | inl b ↦ omega (arith, b.1)
+  | inr b ↦ omega (arith, b.1)
+]
+
+low_is_low : (w k wish variable : ℕ) → low_wish w k ≡ Some (wish, variable) → w < 2 ^ 48
+low_is_low w k wish variable e = case (nat_lt w (2 ^ 48)) refl
+  where
+    case : (b : Bool) → nat_lt w (2 ^ 48) ≡ b → w < 2 ^ 48
+    case true q = grind (arith, nat_tests, q)
+    case false q = let x : ◌≡◌ {A = Option (ℕ × ℕ)} None (Some (wish, variable)) = rw q at e in absurd cc
+
+low_bus : (wish variable : ℕ) (pclk1 pclk2 : Option ℕ) → wish_of_bus pclk1 pclk2 ≡ Some (wish, variable) → wish < 2 ^ 48
+low_bus wish variable (Some w) pclk2 e = let l = low_is_low w 7 wish variable e in let s = low_is w 7 wish variable e in omega (arith, l, s.0)
+low_bus wish variable None (Some w) e = let l = low_is_low w 8 wish variable e in let s = low_is w 8 wish variable e in omega (arith, l, s.0)
+low_bus wish variable None None e = absurd cc
+
+unless_low : (wish variable : ℕ) (hclk pclk1 pclk2 : Option ℕ) → wish_unless hclk (wish_of_bus pclk1 pclk2) ≡ Some (wish, variable) → (wish < 2 ^ 48) × (hclk ≡ None)
+unless_low wish variable None pclk1 pclk2 e = (low_bus wish variable pclk1 pclk2 e, refl)
+unless_low wish variable (Some h) pclk1 pclk2 e = absurd cc
+
+-- the wish is low, and there is none for HCLK
+pub bus_wish_is_low : (f : Facts) (wish variable : ℕ) → bus_wish f ≡ Some (wish, variable) → (wish < 2 ^ 48) × (f.hclk ≡ None)
+bus_wish_is_low f wish variable e = unless_low wish variable f.hclk f.pclk1 f.pclk2 e

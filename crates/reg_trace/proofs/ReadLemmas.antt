@@ -22,7 +22,7 @@ prefixes : (xs ys : List Answer) (r : Result (List Answer) AnswerFault) → with
 prefixes xs ys (Err e) = refl
 prefixes xs ys (Ok zs) = ap Ok (sym (append_assoc xs ys zs))
 
-pub none_behind : (xs : List Answer) → with_prefix xs (Ok []) ≡ Ok xs
+pub none_behind : (xs : List Answer) → ◌≡◌ {A = Result (List Answer) AnswerFault} (with_prefix xs (Ok [])) (Ok xs)
 none_behind xs = ap Ok (append-nil xs)
 
 taken : (number room : ℕ) (found : Option Repeated) (r : Repeated) (ls : List TextLine) → found ≡ Some r → r.count ≤ room

@@ -1,1 +1,1 @@
-mod KnownLemmas
+mod LowestLemmas
