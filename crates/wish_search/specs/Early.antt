@@ -1,4 +1,4 @@
--- What is known of the least choice of a problem before all choices are searched.
+-- Internal: what is known of the least choice of a problem before all choices are searched.
 use Rattle.std.specs.Prelude.{◌≡◌, ℕ, Option, Some, None}
 use Rattle.choice_rank.specs.Least.{IsAnswer, NoneLegal}
 use Rattle.problem.specs.Meets.{meets}
