@@ -1,1 +1,2 @@
+mod BusLemmas
 mod LowestLemmas

@@ -1,18 +1,18 @@
 -- The least rank at some values of HCLK, and that of all choices where the clock of a bus is wished.
-use Rattle.std.proofs.Common.{◌≡◌, ◌⊎◌, inl, inr, ℕ, ◌+◌, ◌*◌, ◌<◌, ◌≤◌, min, List, length, map, true, Option, Some, None, IfSome, get_or, length-map, refl, sym, ap, subst, ◌∙◌, arith}
+use Rattle.std.proofs.Common.{◌≡◌, ◌⊎◌, inl, inr, ℕ, ◌+◌, ◌*◌, ◌<◌, ◌≤◌, min, List, length, map, true, Option, Some, None, IfSome, refl, sym, ap, subst, arith}
 use Rattle.std.proofs.lemmas.Bool.Decides.{nat_tests}
+use Rattle.std.proofs.lemmas.List.{length-map}
 use Rattle.std.specs.Prelude.{slice_index, slice_index_or, ◌≢◌, [], ◌∷◌, zero, suc}
 use Rattle.box_rules.specs.Judged.{whole_meaning}
 use Rattle.choice_rank.specs.Choices.{IsChoice, rank_of}
 use Rattle.choice_rank.specs.Least.{IsAnswer, IsLeast}
-use Rattle.clock_limits.specs.Ranges.{values_at}
 use Rattle.problem.specs.ClockValues.{clock_value}
 use Rattle.problem.specs.Meets.{meets}
 use Rattle.problem.specs.Problem.{IsProblem}
 use Rattle.problem.specs.Wishes.{bus_wish, with_hclk}
 use Rattle.problem.specs.declared.parts.ProblemParts.{ProblemParts}
 use Rattle.problem.proofs.ChosenLemmas.{clock_inside}
-use Rattle.problem.proofs.WishLemmas.{variable_is_clock}
+use Rattle.wish_search.proofs.BusLemmas.{bus_wish_is_low}
 use Rattle.search_api.specs.Accounts.{IsLegalRank}
 use Rattle.wish_search.specs.Early.{IsEarly, early_of}
 use Rattle.wish_search.specs.Lowest.{IsBelow, IsLowestOf, IsReached, lower}
@@ -49,14 +49,14 @@ module _ (p : ProblemParts) where
   legal_rank hclk None allows a = tt
   legal_rank hclk (Some rank) allows a = record {
     choice = a.0;
-    is_choice = a.1.0.is_choice;
-    is_legal = allows a.0 a.1.0.is_legal;
-    rank_is = a.1.1;
+    is_choice = a.1.is_choice;
+    is_legal = allows a.0 a.1.is_legal;
+    rank_is = a.2;
   }
 
   found_below : (hclk : ℕ) (found : Option ℕ) → IsAnswer p.shape (meets (with_hclk (Some hclk) p)) found → IsBelow p hclk found
   found_below hclk None a at choice legal = absurd (a at choice legal)
-  found_below hclk (Some rank) a at choice legal = subst (λ r. r ≤ rank_of p.shape at) a.1.1 (a.1.0.is_lowest at choice legal)
+  found_below hclk (Some rank) a at choice legal = subst (λ r. r ≤ rank_of p.shape at) a.2 (a.1.is_lowest at choice legal)
 
   pub none_tried : (hertz : List ℕ) → IsLowestOf p 0 hertz None
   none_tried hertz = record { legal = tt; below = λ k l. absurd (omega (arith, l)) }
@@ -82,7 +82,7 @@ module _ (p : ProblemParts) where
     reached fixes low at choice legal =
         let values = slice_index_or p.clock variable [] in
         let k = slice_index at variable in
-        let inside : k < length values = clock_inside p agree whole at choice variable (variable_is_clock p.facts wish variable bus) in
+        let inside : k < length values = clock_inside p agree whole at choice variable (bus_wish_is_low p.facts wish variable bus).clock in
         let many : length hertz ≡ length values = length-map values (λ d. wish * d) in
         let there : slice_index hertz k ≡ wish * clock_value p.clock at variable = mapped values k inside in
         low.below k (omega (arith, inside, many)) at choice (subst (λ h. meets (with_hclk (Some h) p) at ≡ true) (sym there) (fixes at legal))
@@ -93,14 +93,14 @@ module _ (p : ProblemParts) where
         mapped (x ∷ xs) (suc k) l = mapped xs k (omega (arith, l))
 
   answer_of : (best : Option ℕ) → IfSome best (IsLegalRank (whole_meaning p)) → ((at : List ℕ) → IsChoice p.shape at → meets p at ≡ true → IsReached best (rank_of p.shape at)) → IsEarly p (early_of best)
-  answer_of None legal reached = λ at choice meets. reached at choice meets
-  answer_of (Some rank) legal reached =
+  answer_of None legal all = λ at choice m. all at choice m
+  answer_of (Some rank) legal all =
       let least : IsLeast p.shape (meets p) legal.choice = record {
         is_choice = legal.is_choice;
         is_legal = legal.is_legal;
-        is_lowest = λ at choice m. subst (λ r. r ≤ rank_of p.shape at) (sym legal.rank_is) (reached at choice m);
+        is_lowest = λ at choice m. subst (λ r. r ≤ rank_of p.shape at) (sym legal.rank_is) (all at choice m);
       } in
-      (legal.choice, (least, legal.rank_is))
+      (legal.choice, least, legal.rank_is)
 
   pub early_is : (agree : IsProblem p) (whole : p.first ≢ 0) (wish variable : ℕ) (bus : bus_wish p.facts ≡ Some (wish, variable)) (best : Option ℕ)
       → ((at : List ℕ) → meets p at ≡ true → meets (with_hclk (Some (wish * clock_value p.clock at variable)) p) at ≡ true)

@@ -1,6 +1,6 @@
 //! What is known of the least choice before all choices are searched.
 ghost use Rattle.std.specs.Prelude.{◌≡◌, ◌≢◌, ◌<◌, ◌*◌, ◌^◌, [], Some, IfOk, map, slice_index_or};
-ghost use Rattle.wish_search.specs.Early.{IsEarly};
+ghost use Rattle.wish_search.specs.Early.{IsEarly, early_of};
 ghost use Rattle.problem.specs.Wishes.{bus_wish};
 
 use crate::hertz::{lowest, multiples};
