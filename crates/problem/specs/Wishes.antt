@@ -1,4 +1,4 @@
--- Internal: wishes for the clocks of the buses, and a problem under another wish for HCLK.
+-- Wishes for the clocks of the buses, and a problem under another wish for HCLK.
 use Rattle.std.specs.Prelude.{ℕ, ◌^◌, Option, Some, None, if◌then◌else◌, nat_lt}
 use Rattle.problem.specs.declared.parts.ProblemParts.{ProblemParts}
 use Rattle.res_model.specs.declared.clock.Facts.{Facts}
