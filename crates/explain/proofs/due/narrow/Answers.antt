@@ -1,4 +1,4 @@
-use Rattle.std.proofs.Common.{subst, sym}
+use Rattle.std.proofs.Common.{subst, sym, ◌∙◌}
 use Rattle.box_rules.specs.Judged.{whole_meaning}
 use Rattle.least_search.specs.Found.{IsFound, IsProof}
 use Rattle.least_search.specs.declared.outcomes.Found.{Found}
@@ -8,6 +8,5 @@ use Rattle.explain.proofs.due.narrow.Goals as goal
 
 pub refused-requires-clause-proof : goal.refused-requires-clause-proof
 refused-requires-clause-proof c =
-    let q = c.in_ok-judge.judge.problem in
-    let none : IsFound (whole_meaning q) (Nothing c.in-Nothing.proof) = subst (λ (f : Found). IsFound (whole_meaning q) f) c.in-Nothing.is c.in_ok-at.ensures in
-    subst (λ (p : ProblemParts). IsProof (whole_meaning p) c.in-Nothing.proof) (sym c.problem-in-Nothing.ensures) none.1
+    let none : IsFound (whole_meaning c.args.p) (Nothing c.in-Nothing.proof) = subst (λ (f : Found). IsFound (whole_meaning c.args.p) f) c.in-Nothing.is c.in_ok-judge.ensures.found in
+    subst (λ (p : ProblemParts). IsProof (whole_meaning p) c.in-Nothing.proof) (sym (c.problem-in-Nothing.ensures ∙ c.in_ok-judge.ensures.judge)) none.1
