@@ -180,24 +180,46 @@ fn told(
 fn searched<R: Threads + Wait + Sync, G: Gate + Sync>(
     rt: &R,
     alloc: Global,
-    p: Problem,
+    judge: &PinClockJudge,
     early: Early,
     proof: bool,
     workers: u32,
     gate: &G,
 ) -> Result<Answer, OutOfMemory>
-    requires whole { p.first ≢ 0 }
-    requires placed { Each (IsPlaced p.tables) p.signals }
-    requires early { IsEarly p early }
+    requires whole { judge.now.problem.first ≢ 0 }
+    requires placed { Each (IsPlaced judge.now.problem.tables) judge.now.problem.signals }
+    requires early { IsEarly judge.now.problem early }
     requires workers { (1 ≤ workers) × (workers ≤ 16) }
-    ensures { IfOk result (λ a. OfWhole proof p a) }
+    ensures { IfOk result (λ a. OfWhole proof judge.now.problem a) }
 {
-    let judge = PinClockJudge::new(alloc, p)?;
-    let outcome = search_after(rt, alloc, &judge, early, workers, gate)?;
-    told(alloc, &judge, &outcome, proof)
+    let outcome = search_after(rt, alloc, judge, early, workers, gate)?;
+    told(alloc, judge, &outcome, proof)
 }
 
-/// What is due for a problem. A least choice that is known early needs no search of the others, where no refutation is asked for.
+/// What is due where a judge is made. A least choice that is known early needs no search of the others, where no refutation is
+/// asked for.
+fn judged<R: Threads + Wait + Sync, G: Gate + Sync>(
+    rt: &R,
+    alloc: Global,
+    judge: &PinClockJudge,
+    early: Early,
+    proof: bool,
+    workers: u32,
+    gate: &G,
+) -> Result<Answer, OutOfMemory>
+    requires whole { judge.now.problem.first ≢ 0 }
+    requires placed { Each (IsPlaced judge.now.problem.tables) judge.now.problem.signals }
+    requires early { IsEarly judge.now.problem early }
+    requires workers { (1 ≤ workers) × (workers ≤ 16) }
+    ensures { IfOk result (λ a. OfWhole proof judge.now.problem a) }
+{
+    match early {
+        Early::Least { rank } if !proof => reported(alloc, judge.problem(), rank, &[], proof),
+        _ => searched(rt, alloc, judge, early, proof, workers, gate),
+    }
+}
+
+/// What is due for a problem, of which something may be known early.
 fn answered<R: Threads + Wait + Sync, G: Gate + Sync>(
     rt: &R,
     alloc: Global,
@@ -212,10 +234,8 @@ fn answered<R: Threads + Wait + Sync, G: Gate + Sync>(
     ensures { IfOk result (λ a. OfWhole proof p a) }
 {
     let Asked { problem, early } = ask_early(alloc, p)?;
-    match early {
-        Early::Least { rank } if !proof => reported(alloc, &problem, rank, &[], proof),
-        _ => searched(rt, alloc, problem, early, proof, workers, gate),
-    }
+    let judge = PinClockJudge::new(alloc, problem)?;
+    judged(rt, alloc, &judge, early, proof, workers, gate)
 }
 
 /// The report of the least choice of pins and clocks that meets every limit, or the refutation of all choices.

@@ -10,18 +10,18 @@ use Rattle.res_model.specs.Placed.{IsPlaced}
 use Rattle.solver.specs.Owed.{OfWhole, narrow, wide}
 use Rattle.solver.proofs.whole.resolve.Goals as goal
 
-pub searched-requires-clause-whole : goal.searched-requires-clause-whole
+pub answered-requires-clause-whole : goal.answered-requires-clause-whole
 unfolding problem_of
-searched-requires-clause-whole g c κs within = subst (λ (q : ProblemParts). q.first ≢ 0) (sym c.in-Ok.ensures.problem) (λ e. omega (arith, e))
+answered-requires-clause-whole g c κs within = subst (λ (q : ProblemParts). q.first ≢ 0) (sym c.in-Ok.ensures.problem) (λ e. omega (arith, e))
 
-pub searched-requires-clause-placed : goal.searched-requires-clause-placed
+pub answered-requires-clause-placed : goal.answered-requires-clause-placed
 unfolding problem_of
-searched-requires-clause-placed g c κs within = subst (λ (q : ProblemParts). Each (IsPlaced q.tables) q.signals) (sym c.in-Ok.ensures.problem) c.requires.placed
+answered-requires-clause-placed g c κs within = subst (λ (q : ProblemParts). Each (IsPlaced q.tables) q.signals) (sym c.in-Ok.ensures.problem) c.requires.placed
 
 pub returns-in-Ok : goal.returns-in-Ok
 unfolding problem_of
 returns-in-Ok g c =
-    IfOk-weaker c.searched.result _ _ (λ a due. narrow c.in-Ok.ensures.narrow (subst (λ (q : ProblemParts). OfWhole c.args.proof q a) c.in-Ok.ensures.problem due)) c.searched.ensures
+    IfOk-weaker c.answered.result _ _ (λ a due. narrow c.in-Ok.ensures.narrow (subst (λ (q : ProblemParts). OfWhole c.args.proof q a) c.in-Ok.ensures.problem due)) c.answered.ensures
 
 pub returns-in-Err-Fault : goal.returns-in-Err-Fault
 unfolding problem_of
